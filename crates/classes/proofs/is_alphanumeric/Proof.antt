@@ -1,0 +1,25 @@
+-- ASCII's part is a law of the tables; past ASCII the tables are the definition's, as the search in them asks.
+-- Assumes nothing.
+use mathlib.Core.Path.{_≡_, sym}
+use mathlib.Core.Bool.{_||_}
+use Rattle.rules.proofs.Tables.{ascii-alphanumeric}
+use borrow.Author.Needs.{needs}
+use Rattle.classes.proofs.is_alphanumeric.Statement.{statement}
+use Rattle.classes.proofs.is_alphanumeric.Tie as tie
+
+returns : tie.Need-returns
+returns c =
+    rw (c .before .is-letter .ensures, c .is-digit .ensures)
+    (sym (ascii-alphanumeric _ (c .before .before .if1 .taken)))
+
+pub is-alphanumeric-spec : {M : Type 1} → statement M
+is-alphanumeric-spec =
+    tie.close
+    (tie.spec
+    (λ c κs. search needs)
+    (λ c κs. search needs)
+    returns
+    (λ c κs. search needs)
+    (λ c κs. search needs)
+    (λ c κs. search needs)
+    (λ c. search needs))

@@ -1,0 +1,32 @@
+-- Which file proves which sentence.
+-- Tests and tables.
+pub mod Tests
+pub mod Ranges
+pub mod Tables
+-- RFC 3629.
+pub mod Formed
+pub mod Reading
+pub mod Proper
+pub mod Validity
+-- What the proof of demand 3 asks of each rule.
+pub mod Masks
+pub mod Step
+pub mod Rules
+pub mod Delimited
+-- The rules: 1 and 3, 1, 2, 4, 5, 6 and 7.
+pub mod Runs
+pub mod Comments
+pub mod Operators
+pub mod Quotes
+pub mod Dollars
+pub mod NumberParts
+pub mod Numbers
+-- Demand 3.
+pub mod Visible
+pub mod Relex
+pub mod Masked
+-- Demand 2: the first token, the edges, the lists, and the bench sheet.
+pub mod FirstToken
+pub mod Edges
+pub mod Listing
+pub mod Bench

@@ -1,0 +1,142 @@
+-- A character that is read from a text depends on its own bytes; what its code says of its bytes.
+use Prim.Native.Nat.{ℕ, zero, suc, _+_, _-_, _≤_, _<_}
+use native.Mathlib.Omega.{arith}
+use mathlib.Core.Path.{_≡_, refl, sym, ap, ap₂, _∙_, subst}
+use mathlib.Core.List.{List, [], _∷_, _++_}
+use mathlib.Core.Logic.{_⊎_, inl, inr}
+use lib.ListN.{length, getD, take, drop, length-append, length-take}
+use Rattle.rules.specs.Utf8.{formed, wellFormed, codeOf, Char, width, charOf, charAt}
+use Rattle.rules.specs.Limits.{maskByte}
+use Rattle.rules.proofs.Reading.{flatten, Read}
+use Rattle.rules.proofs.Formed.{dark-second, dark-third, dark-fourth, WF, wf0, wf1, wf2, wf3, wf4, view}
+
+-- Byte by byte: as it was, or 35
+pub data Under : List ℕ → List ℕ → Type 0 where
+  stop : Under [] []
+  same : (b : ℕ) {s t : List ℕ} → Under s t → Under (b ∷ s) (b ∷ t)
+  dark : (b : ℕ) {s t : List ℕ} → Under s t → Under (b ∷ s) (maskByte ∷ t)
+
+pub under-refl : (s : List ℕ) → Under s s
+under-refl [] = stop
+under-refl (b ∷ s) = same b (under-refl s)
+
+pub under-append : (u : List ℕ) {s t : List ℕ} → Under s t → Under (u ++ s) (u ++ t)
+under-append [] m = m
+under-append (b ∷ u) m = same b (under-append u m)
+
+under-get : {s t : List ℕ} → Under s t → (i : ℕ) → (getD t i 0 ≡ getD s i 0) ⊎ (getD t i 0 ≡ maskByte)
+under-get stop i = inl refl
+under-get (same b m) zero = inl refl
+under-get (same b m) (suc i) = under-get m i
+under-get (dark b m) zero = inr refl
+under-get (dark b m) (suc i) = under-get m i
+
+dim-3 : (b0 b1 b2 b3 x : ℕ) → (x ≡ b3) ⊎ (x ≡ maskByte) → formed b0 b1 b2 b3 < 4 → formed b0 b1 b2 x ≡ formed b0 b1 b2 b3
+dim-3 b0 b1 b2 b3 x (inl e) h = rw e
+dim-3 b0 b1 b2 b3 x (inr e) h = rw e (dark-fourth b0 b1 b2 b3 h)
+
+dim-2 : (b0 b1 b2 b3 x : ℕ) → (x ≡ b2) ⊎ (x ≡ maskByte) → formed b0 b1 b2 b3 < 3 → formed b0 b1 x b3 ≡ formed b0 b1 b2 b3
+dim-2 b0 b1 b2 b3 x (inl e) h = rw e
+dim-2 b0 b1 b2 b3 x (inr e) h = rw e (dark-third b0 b1 b2 b3 h)
+
+dim-1 : (b0 b1 b2 b3 x : ℕ) → (x ≡ b1) ⊎ (x ≡ maskByte) → formed b0 b1 b2 b3 < 2 → formed b0 x b2 b3 ≡ formed b0 b1 b2 b3
+dim-1 b0 b1 b2 b3 x (inl e) h = rw e
+dim-1 b0 b1 b2 b3 x (inr e) h = rw e (dark-second b0 b1 b2 b3 h)
+
+pub formed-same : (u r r' : List ℕ) → Under r r' → 0 < length u → wellFormed (u ++ r) ≤ length u → wellFormed (u ++ r') ≡ wellFormed (u ++ r)
+formed-same [] r r' m h k = absurd (omega arith)
+formed-same (x ∷ []) r r' m h k =
+    let e3 = dim-3 x (getD r 0 0) (getD r 1 0) (getD r 2 0) (getD r' 2 0) (under-get m 2) (omega arith) in
+    let e2 = dim-2 x (getD r 0 0) (getD r 1 0) (getD r' 2 0) (getD r' 1 0) (under-get m 1) (omega arith) in
+    let e1 = dim-1 x (getD r 0 0) (getD r' 1 0) (getD r' 2 0) (getD r' 0 0) (under-get m 0) (omega arith) in
+    e1 ∙ e2 ∙ e3
+formed-same (x ∷ y ∷ []) r r' m h k =
+    let e3 = dim-3 x y (getD r 0 0) (getD r 1 0) (getD r' 1 0) (under-get m 1) (omega arith) in
+    let e2 = dim-2 x y (getD r 0 0) (getD r' 1 0) (getD r' 0 0) (under-get m 0) (omega arith) in
+    e2 ∙ e3
+formed-same (x ∷ y ∷ z ∷ []) r r' m h k = dim-3 x y z (getD r 0 0) (getD r' 0 0) (under-get m 0) (omega arith)
+formed-same (x ∷ y ∷ z ∷ a ∷ u) r r' m h k = refl
+
+getD-in : (l : List ℕ) (i : ℕ) → 0 < getD l i 0 → i < length l
+getD-in [] i h = absurd (omega arith)
+getD-in (x ∷ l) zero h = omega arith
+getD-in (x ∷ l) (suc i) h = let k = getD-in l i h in omega arith
+
+pub length-prefix : (n : ℕ) (u r : List ℕ) → take n (u ++ r) ≡ u → n ≤ length (u ++ r) → length u ≡ n
+length-prefix n u r e h = sym (ap length e) ∙ simp length-take (omega arith)
+
+pub size-is : (u r : List ℕ) (w : ℕ) → WF (getD (u ++ r) 0 0) (getD (u ++ r) 1 0) (getD (u ++ r) 2 0) (getD (u ++ r) 3 0) w → 0 < length u → charOf w (u ++ r) .bytes ≡ u → w ≤ length u
+unfolding charOf
+size-is u r _ wf0 h e = omega arith
+size-is u r _ (wf1 x) h e = omega arith
+size-is u r _ (wf2 x y z) h e = let k = length-prefix 2 u r e (getD-in (u ++ r) 1 (omega arith)) in omega arith
+size-is u r _ (wf3 x0 x y z) h e = let k = length-prefix 3 u r e (getD-in (u ++ r) 2 (omega arith)) in omega arith
+size-is u r _ (wf4 x1 x y z) h e = let k = length-prefix 4 u r e (getD-in (u ++ r) 3 (omega arith)) in omega arith
+
+charOf-same : (u r r' : List ℕ) (w : ℕ) → WF (getD (u ++ r) 0 0) (getD (u ++ r) 1 0) (getD (u ++ r) 2 0) (getD (u ++ r) 3 0) w → 0 < length u → w ≤ length u → charOf w (u ++ r') ≡ charOf w (u ++ r)
+unfolding charOf codeOf
+charOf-same [] r r' w v h k = absurd (omega arith)
+charOf-same (x ∷ u) r r' _ wf0 h k = refl
+charOf-same (x ∷ u) r r' _ (wf1 _) h k = refl
+charOf-same (x ∷ []) r r' _ (wf2 _ _ _) h k = absurd (omega arith)
+charOf-same (x ∷ y ∷ u) r r' _ (wf2 _ _ _) h k = refl
+charOf-same (x ∷ []) r r' _ (wf3 _ _ _ _) h k = absurd (omega arith)
+charOf-same (x ∷ y ∷ []) r r' _ (wf3 _ _ _ _) h k = absurd (omega arith)
+charOf-same (x ∷ y ∷ z ∷ u) r r' _ (wf3 _ _ _ _) h k = refl
+charOf-same (x ∷ []) r r' _ (wf4 _ _ _ _) h k = absurd (omega arith)
+charOf-same (x ∷ y ∷ []) r r' _ (wf4 _ _ _ _) h k = absurd (omega arith)
+charOf-same (x ∷ y ∷ z ∷ []) r r' _ (wf4 _ _ _ _) h k = absurd (omega arith)
+charOf-same (x ∷ y ∷ z ∷ a ∷ u) r r' _ (wf4 _ _ _ _) h k = refl
+
+local-char : (u r r' : List ℕ) → Under r r' → 0 < length u → charAt (u ++ r) .bytes ≡ u → charAt (u ++ r') ≡ charAt (u ++ r)
+local-char u r r' m h e =
+    let v = view (getD (u ++ r) 0 0) (getD (u ++ r) 1 0) (getD (u ++ r) 2 0) (getD (u ++ r) 3 0) in
+    let k = size-is u r (wellFormed (u ++ r)) v h e in
+    ap (λ (w : ℕ). charOf w (u ++ r')) (formed-same u r r' m h k) ∙ charOf-same u r r' (wellFormed (u ++ r)) v h k
+
+pub keep-char : (c : Char) {r r' : List ℕ} → Under r r' → 0 < width c → charAt (c .bytes ++ r) ≡ c → charAt (c .bytes ++ r') ≡ c
+keep-char c {r} {r'} m h e = local-char (c .bytes) r r' m h (ap (λ (d : Char). d .bytes) e) ∙ e
+
+-- A character of ASCII is its one byte; one of the middle codes has three, of which the first is no ASCII.
+pub record Proper (c : Char) : Type 0 where
+  pub wide : 0 < width c
+  pub ascii : c .code < 128 → c .bytes ≡ c .code ∷ []
+  pub three : 2048 ≤ c .code → c .code < 65536 → (width c ≡ 3) × (128 ≤ getD (c .bytes) 0 0)
+
+abbrev pub Propers : List Char → Type 0
+Propers [] = Unit {0}
+Propers (c ∷ cs) = Proper c × Propers cs
+
+proper-of : (b : ℕ) (s : List ℕ) (w : ℕ) → WF b (getD s 0 0) (getD s 1 0) (getD s 2 0) w → Proper (charOf w (b ∷ s))
+unfolding charOf codeOf
+proper-of b s _ wf0 = record { wide = omega arith; ascii = λ h. absurd (omega arith); three = λ h k. absurd (omega arith) }
+proper-of b s _ (wf1 x) = record { wide = omega arith; ascii = λ h. refl; three = λ h k. absurd (omega arith) }
+proper-of b s _ (wf2 x y z) = record { wide = omega arith; ascii = λ h. absurd (omega arith); three = λ h k. absurd (omega arith) }
+proper-of b s _ (wf3 x0 x y z) = record { wide = omega arith; ascii = λ h. absurd (omega arith); three = λ h k. (let i = getD-in s 1 (omega arith) in simp length-take (omega arith), x0) }
+proper-of b s _ (wf4 x1 x y z) = record { wide = omega arith; ascii = λ h. absurd (omega arith); three = λ h k. absurd (omega arith) }
+
+proper-char : (c : Char) (r : List ℕ) → 0 < width c → charAt (c .bytes ++ r) ≡ c → Proper c
+proper-char c r h e = go (c .bytes) refl h
+  where
+    go : (u : List ℕ) → c .bytes ≡ u → 0 < length u → Proper c
+    go [] p k = absurd (omega arith)
+    go (b ∷ u) p k = subst Proper (ap (λ (l : List ℕ). charAt (l ++ r)) (sym p) ∙ e) (proper-of b (u ++ r) _ (view b (getD (u ++ r) 0 0) (getD (u ++ r) 1 0) (getD (u ++ r) 2 0)))
+
+pub propers : (cs : List Char) → Read cs → Propers cs
+propers [] r = tt
+propers (c ∷ cs) r = (proper-char c (flatten cs) (r .1) (r .0), propers cs (r .2))
+
+pub propers-left : (us vs : List Char) → Propers (us ++ vs) → Propers us
+propers-left [] vs p = tt
+propers-left (c ∷ us) vs p = (p .0, propers-left us vs (p .1))
+
+pub propers-right : (us vs : List Char) → Propers (us ++ vs) → Propers vs
+propers-right [] vs p = p
+propers-right (c ∷ us) vs p = propers-right us vs (p .1)
+
+-- The bytes of a character of ASCII that is known
+pub one-byte : {c : Char} → Proper c → (n : ℕ) → c .code ≡ n → n < 128 → c .bytes ≡ n ∷ []
+one-byte {c} p n e h = p .ascii (rw e h) ∙ ap {B = List ℕ} (λ (b : ℕ). b ∷ []) e
+
+pub one-wide : {c : Char} → Proper c → c .code < 128 → width c ≡ 1
+one-wide p h = ap length (p .ascii h)
