@@ -21,31 +21,31 @@ use Rattle.rules.proofs.Rules.{lexeme-by}
 use Rattle.rules.proofs.Delimited.{Shape, unclosed, closing, more, open-hashes, shut-hashes, open-step, shut-step}
 use Rattle.rules.proofs.Tests.{clash, eqb-true, and-left, and-right}
 
-abbrev opens : Char → ℕ → Bool
+abbrev pub opens : Char → ℕ → Bool
 opens c b = eqb (c .code) slash && eqb b star
 
-abbrev closes : Char → ℕ → Bool
+abbrev pub closes : Char → ℕ → Bool
 closes c b = eqb (c .code) star && eqb b slash
 
 -- the clauses of `comment`, by its tests
 module _ (c : Char) (cs : List Char) where
-  comment-taken : (n : ℕ) → commentBody n true (c ∷ cs) ≡ further (width c) (commentBody n false cs)
+  pub comment-taken : (n : ℕ) → commentBody n true (c ∷ cs) ≡ further (width c) (commentBody n false cs)
   unfolding commentBody
   comment-taken n = refl
 
-  comment-open : (n : ℕ) → opens c (first cs) ≡ true → commentBody n false (c ∷ cs) ≡ further (width c) (commentBody (suc n) true cs)
+  pub comment-open : (n : ℕ) → opens c (first cs) ≡ true → commentBody n false (c ∷ cs) ≡ further (width c) (commentBody (suc n) true cs)
   unfolding commentBody
   comment-open n e = rw (e, commentBody)
 
-  comment-less : (n : ℕ) → opens c (first cs) ≡ false → closes c (first cs) ≡ true → commentBody (suc n) false (c ∷ cs) ≡ further (width c) (commentBody n true cs)
+  pub comment-less : (n : ℕ) → opens c (first cs) ≡ false → closes c (first cs) ≡ true → commentBody (suc n) false (c ∷ cs) ≡ further (width c) (commentBody n true cs)
   unfolding commentBody
   comment-less n e f = rw (e, f, commentBody)
 
-  comment-close : opens c (first cs) ≡ false → closes c (first cs) ≡ true → commentBody 0 false (c ∷ cs) ≡ closedBy 2
+  pub comment-close : opens c (first cs) ≡ false → closes c (first cs) ≡ true → commentBody 0 false (c ∷ cs) ≡ closedBy 2
   unfolding commentBody
   comment-close e f = rw (e, f, commentBody)
 
-  comment-other : (n : ℕ) → opens c (first cs) ≡ false → closes c (first cs) ≡ false → commentBody n false (c ∷ cs) ≡ further (width c) (commentBody n false cs)
+  pub comment-other : (n : ℕ) → opens c (first cs) ≡ false → closes c (first cs) ≡ false → commentBody n false (c ∷ cs) ≡ further (width c) (commentBody n false cs)
   unfolding commentBody
   comment-other n e f = rw (e, f, commentBody)
 

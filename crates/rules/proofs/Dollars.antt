@@ -24,19 +24,19 @@ use Rattle.rules.proofs.Tests.{clash, eqb-true, eqb-same, and-left, and
 
 -- the clauses of `tagOf`, by its tests
 module _ (c : Char) (cs : List Char) where
-  tag-end : eqb (c .code) dollar ≡ true → tagOf (c ∷ cs) ≡ some []
+  pub tag-end : eqb (c .code) dollar ≡ true → tagOf (c ∷ cs) ≡ some []
   unfolding tagOf
   tag-end e = rw (e, tagOf)
 
-  tag-not : eqb (c .code) dollar ≡ false → tagByte (c .code) ≡ false → tagOf (c ∷ cs) ≡ none
+  pub tag-not : eqb (c .code) dollar ≡ false → tagByte (c .code) ≡ false → tagOf (c ∷ cs) ≡ none
   unfolding tagOf
   tag-not e f = rw (e, f, tagOf)
 
-  tag-none : eqb (c .code) dollar ≡ false → tagByte (c .code) ≡ true → tagOf cs ≡ none → tagOf (c ∷ cs) ≡ none
+  pub tag-none : eqb (c .code) dollar ≡ false → tagByte (c .code) ≡ true → tagOf cs ≡ none → tagOf (c ∷ cs) ≡ none
   unfolding tagOf
   tag-none e f g = rw (e, f, g, tagOf)
 
-  tag-more : (t : List ℕ) → eqb (c .code) dollar ≡ false → tagByte (c .code) ≡ true → tagOf cs ≡ some t → tagOf (c ∷ cs) ≡ some (c .code ∷ t)
+  pub tag-more : (t : List ℕ) → eqb (c .code) dollar ≡ false → tagByte (c .code) ≡ true → tagOf cs ≡ some t → tagOf (c ∷ cs) ≡ some (c .code ∷ t)
   unfolding tagOf
   tag-more t e f g = rw (e, f, g, tagOf)
 
@@ -132,15 +132,15 @@ begins-again (n ∷ d) (c ∷ ds) vs s = rw (s .0, eqb-same n) (begins-again d d
 
 -- the clauses of `find`
 module _ (d : List ℕ) (c : Char) (cs : List Char) where
-  find-here : begins d (c ∷ cs) ≡ true → find d (c ∷ cs) ≡ some 0
+  pub find-here : begins d (c ∷ cs) ≡ true → find d (c ∷ cs) ≡ some 0
   unfolding find
   find-here e = rw (e, find)
 
-  find-none : begins d (c ∷ cs) ≡ false → find d cs ≡ none → find d (c ∷ cs) ≡ none
+  pub find-none : begins d (c ∷ cs) ≡ false → find d cs ≡ none → find d (c ∷ cs) ≡ none
   unfolding find
   find-none e f = rw (e, f, find)
 
-  find-later : (n : ℕ) → begins d (c ∷ cs) ≡ false → find d cs ≡ some n → find d (c ∷ cs) ≡ some (width c + n)
+  pub find-later : (n : ℕ) → begins d (c ∷ cs) ≡ false → find d cs ≡ some n → find d (c ∷ cs) ≡ some (width c + n)
   unfolding find
   find-later n e f = rw (e, f, find)
 
@@ -171,15 +171,15 @@ never n e = absurd (let z : _≡_ {A = ℕ} 0 1 = cc in omega arith)
 
 -- the clauses of `hereDoc`
 module _ (cs : List Char) where
-  here-none : tagOf cs ≡ none → hereDoc cs ≡ none
+  pub here-none : tagOf cs ≡ none → hereDoc cs ≡ none
   unfolding hereDoc
   here-none e = rw (e, hereDoc)
 
-  here-lone : (tag : List ℕ) → tagOf cs ≡ some tag → find (delimiter tag) (drop (suc (length tag)) cs) ≡ none → hereDoc cs ≡ none
+  pub here-lone : (tag : List ℕ) → tagOf cs ≡ some tag → find (delimiter tag) (drop (suc (length tag)) cs) ≡ none → hereDoc cs ≡ none
   unfolding hereDoc
   here-lone tag e f = rw (e, f, hereDoc)
 
-  here-some : (tag : List ℕ) (n : ℕ) → tagOf cs ≡ some tag → find (delimiter tag) (drop (suc (length tag)) cs) ≡ some n → hereDoc cs ≡ some (n + 2 * length (delimiter tag))
+  pub here-some : (tag : List ℕ) (n : ℕ) → tagOf cs ≡ some tag → find (delimiter tag) (drop (suc (length tag)) cs) ≡ some n → hereDoc cs ≡ some (n + 2 * length (delimiter tag))
   unfolding hereDoc
   here-some tag n e f = rw (e, f, hereDoc)
 

@@ -3,7 +3,10 @@
 pub mod Tests
 pub mod Ranges
 pub mod Tables
--- RFC 3629.
+-- RFC 3629: its examples, decoding at an index, a text as the bytes of its characters.
+pub mod Utf8Examples
+pub mod Decoding
+pub mod Bytes
 pub mod Formed
 pub mod Reading
 pub mod Proper

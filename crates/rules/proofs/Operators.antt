@@ -112,15 +112,15 @@ spaceship-dim a b e x (inr p) h = ap (spaceship a b) p ∙ simp and-false
 
 -- the clauses of `operator`, by its tests
 module _ (c : Char) (cs : List Char) where
-  operator-three : spaceship (c .code) (first cs) (first (drop 1 cs)) ≡ true → operator c cs ≡ is Spaceship 3
+  pub operator-three : spaceship (c .code) (first cs) (first (drop 1 cs)) ≡ true → operator c cs ≡ is Spaceship 3
   unfolding operator
   operator-three e = rw (e, operator)
 
-  operator-two : (k : ℕ) → spaceship (c .code) (first cs) (first (drop 1 cs)) ≡ false → pair (c .code) (first cs) ≡ suc k → operator c cs ≡ is (suc k) 2
+  pub operator-two : (k : ℕ) → spaceship (c .code) (first cs) (first (drop 1 cs)) ≡ false → pair (c .code) (first cs) ≡ suc k → operator c cs ≡ is (suc k) 2
   unfolding operator
   operator-two k e f = rw (e, f, operator)
 
-  operator-one : spaceship (c .code) (first cs) (first (drop 1 cs)) ≡ false → pair (c .code) (first cs) ≡ 0 → operator c cs ≡ is (single (c .code)) (width c)
+  pub operator-one : spaceship (c .code) (first cs) (first (drop 1 cs)) ≡ false → pair (c .code) (first cs) ≡ 0 → operator c cs ≡ is (single (c .code)) (width c)
   unfolding operator
   operator-one e f = rw (e, f, operator)
 

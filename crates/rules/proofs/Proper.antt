@@ -1,5 +1,5 @@
 -- A character that is read from a text depends on its own bytes; what its code says of its bytes.
-use Prim.Native.Nat.{ℕ, zero, suc, _+_, _-_, _≤_, _<_}
+use Prim.Native.Nat.{ℕ, zero, suc, _+_, _-_, _%_, _≤_, _<_}
 use native.Mathlib.Omega.{arith}
 use mathlib.Core.Path.{_≡_, refl, sym, ap, ap₂, _∙_, subst}
 use mathlib.Core.List.{List, [], _∷_, _++_}
@@ -8,7 +8,8 @@ use lib.ListN.{length, getD, take, drop, length-append, length-take}
 use Rattle.rules.specs.Utf8.{formed, wellFormed, codeOf, Char, width, charOf, charAt}
 use Rattle.rules.specs.Limits.{maskByte}
 use Rattle.rules.proofs.Reading.{flatten, Read}
-use Rattle.rules.proofs.Formed.{dark-second, dark-third, dark-fourth, WF, wf0, wf1, wf2, wf3, wf4, view}
+use Rattle.rules.proofs.Decoding.{Form, none, one, two, three, four, form, form-of, form-most, low-of}
+use Rattle.rules.proofs.Formed.{dark-second, dark-third, dark-fourth}
 
 -- Byte by byte: as it was, or 35
 pub data Under : List ℕ → List ℕ → Type 0 where
@@ -65,34 +66,32 @@ getD-in (x ∷ l) (suc i) h = let k = getD-in l i h in omega arith
 pub length-prefix : (n : ℕ) (u r : List ℕ) → take n (u ++ r) ≡ u → n ≤ length (u ++ r) → length u ≡ n
 length-prefix n u r e h = sym (ap length e) ∙ simp length-take (omega arith)
 
-pub size-is : (u r : List ℕ) (w : ℕ) → WF (getD (u ++ r) 0 0) (getD (u ++ r) 1 0) (getD (u ++ r) 2 0) (getD (u ++ r) 3 0) w → 0 < length u → charOf w (u ++ r) .bytes ≡ u → w ≤ length u
+pub size-is : (u r : List ℕ) (w : ℕ) → Form (getD (u ++ r) 0 0) (getD (u ++ r) 1 0) (getD (u ++ r) 2 0) (getD (u ++ r) 3 0) w → 0 < length u → charOf w (u ++ r) .bytes ≡ u → w ≤ length u
 unfolding charOf
-size-is u r _ wf0 h e = omega arith
-size-is u r _ (wf1 x) h e = omega arith
-size-is u r _ (wf2 x y z) h e = let k = length-prefix 2 u r e (getD-in (u ++ r) 1 (omega arith)) in omega arith
-size-is u r _ (wf3 x0 x y z) h e = let k = length-prefix 3 u r e (getD-in (u ++ r) 2 (omega arith)) in omega arith
-size-is u r _ (wf4 x1 x y z) h e = let k = length-prefix 4 u r e (getD-in (u ++ r) 3 (omega arith)) in omega arith
+size-is u r _ none h e = omega arith
+size-is u r _ (one _) h e = omega arith
+size-is u r _ (two _ _ b) h e = let k = length-prefix 2 u r e (getD-in (u ++ r) 1 (omega (arith, b))) in omega arith
+size-is u r _ (three _ _ _ c) h e = let k = length-prefix 3 u r e (getD-in (u ++ r) 2 (omega (arith, c))) in omega arith
+size-is u r _ (four _ _ _ _ d) h e = let k = length-prefix 4 u r e (getD-in (u ++ r) 3 (omega (arith, d))) in omega arith
 
-charOf-same : (u r r' : List ℕ) (w : ℕ) → WF (getD (u ++ r) 0 0) (getD (u ++ r) 1 0) (getD (u ++ r) 2 0) (getD (u ++ r) 3 0) w → 0 < length u → w ≤ length u → charOf w (u ++ r') ≡ charOf w (u ++ r)
+-- the code and the bytes of a character are within its length
+charOf-same : (u r r' : List ℕ) (w : ℕ) → w ≤ 4 → 0 < length u → w ≤ length u → charOf w (u ++ r') ≡ charOf w (u ++ r)
 unfolding charOf codeOf
-charOf-same [] r r' w v h k = absurd (omega arith)
-charOf-same (x ∷ u) r r' _ wf0 h k = refl
-charOf-same (x ∷ u) r r' _ (wf1 _) h k = refl
-charOf-same (x ∷ []) r r' _ (wf2 _ _ _) h k = absurd (omega arith)
-charOf-same (x ∷ y ∷ u) r r' _ (wf2 _ _ _) h k = refl
-charOf-same (x ∷ []) r r' _ (wf3 _ _ _ _) h k = absurd (omega arith)
-charOf-same (x ∷ y ∷ []) r r' _ (wf3 _ _ _ _) h k = absurd (omega arith)
-charOf-same (x ∷ y ∷ z ∷ u) r r' _ (wf3 _ _ _ _) h k = refl
-charOf-same (x ∷ []) r r' _ (wf4 _ _ _ _) h k = absurd (omega arith)
-charOf-same (x ∷ y ∷ []) r r' _ (wf4 _ _ _ _) h k = absurd (omega arith)
-charOf-same (x ∷ y ∷ z ∷ []) r r' _ (wf4 _ _ _ _) h k = absurd (omega arith)
-charOf-same (x ∷ y ∷ z ∷ a ∷ u) r r' _ (wf4 _ _ _ _) h k = refl
+charOf-same [] r r' w m h k = absurd (omega arith)
+charOf-same (x ∷ u) r r' zero m h k = refl
+charOf-same (x ∷ u) r r' (suc zero) m h k = refl
+charOf-same (x ∷ []) r r' (suc (suc w)) m h k = absurd (omega arith)
+charOf-same (x ∷ y ∷ u) r r' (suc (suc zero)) m h k = refl
+charOf-same (x ∷ y ∷ []) r r' (suc (suc (suc w))) m h k = absurd (omega arith)
+charOf-same (x ∷ y ∷ z ∷ u) r r' (suc (suc (suc zero))) m h k = refl
+charOf-same (x ∷ y ∷ z ∷ []) r r' (suc (suc (suc (suc w)))) m h k = absurd (omega arith)
+charOf-same (x ∷ y ∷ z ∷ a ∷ u) r r' (suc (suc (suc (suc zero)))) m h k = refl
+charOf-same (x ∷ y ∷ z ∷ a ∷ u) r r' (suc (suc (suc (suc (suc w))))) m h k = absurd (omega arith)
 
 local-char : (u r r' : List ℕ) → Under r r' → 0 < length u → charAt (u ++ r) .bytes ≡ u → charAt (u ++ r') ≡ charAt (u ++ r)
 local-char u r r' m h e =
-    let v = view (getD (u ++ r) 0 0) (getD (u ++ r) 1 0) (getD (u ++ r) 2 0) (getD (u ++ r) 3 0) in
-    let k = size-is u r (wellFormed (u ++ r)) v h e in
-    ap (λ (w : ℕ). charOf w (u ++ r')) (formed-same u r r' m h k) ∙ charOf-same u r r' (wellFormed (u ++ r)) v h k
+    let k = size-is u r (wellFormed (u ++ r)) (form-of (u ++ r)) h e in
+    ap (λ (w : ℕ). charOf w (u ++ r')) (formed-same u r r' m h k) ∙ charOf-same u r r' (wellFormed (u ++ r)) (form-most (form-of (u ++ r))) h k
 
 pub keep-char : (c : Char) {r r' : List ℕ} → Under r r' → 0 < width c → charAt (c .bytes ++ r) ≡ c → charAt (c .bytes ++ r') ≡ c
 keep-char c {r} {r'} m h e = local-char (c .bytes) r r' m h (ap (λ (d : Char). d .bytes) e) ∙ e
@@ -107,20 +106,27 @@ abbrev pub Propers : List Char → Type 0
 Propers [] = Unit {0}
 Propers (c ∷ cs) = Proper c × Propers cs
 
-proper-of : (b : ℕ) (s : List ℕ) (w : ℕ) → WF b (getD s 0 0) (getD s 1 0) (getD s 2 0) w → Proper (charOf w (b ∷ s))
+proper-of : (b : ℕ) (s : List ℕ) (w : ℕ) → Form b (getD s 0 0) (getD s 1 0) (getD s 2 0) w → Proper (charOf w (b ∷ s))
 unfolding charOf codeOf
-proper-of b s _ wf0 = record { wide = omega arith; ascii = λ h. absurd (omega arith); three = λ h k. absurd (omega arith) }
-proper-of b s _ (wf1 x) = record { wide = omega arith; ascii = λ h. refl; three = λ h k. absurd (omega arith) }
-proper-of b s _ (wf2 x y z) = record { wide = omega arith; ascii = λ h. absurd (omega arith); three = λ h k. absurd (omega arith) }
-proper-of b s _ (wf3 x0 x y z) = record { wide = omega arith; ascii = λ h. absurd (omega arith); three = λ h k. (let i = getD-in s 1 (omega arith) in simp length-take (omega arith), x0) }
-proper-of b s _ (wf4 x1 x y z) = record { wide = omega arith; ascii = λ h. absurd (omega arith); three = λ h k. absurd (omega arith) }
+proper-of b s _ none = record { wide = omega arith; ascii = λ h. absurd (omega arith); three = λ h k. absurd (omega arith) }
+proper-of b s _ (one x) = record { wide = omega arith; ascii = λ h. refl; three = λ h k. absurd (omega arith) }
+proper-of b s _ (two x y t) = record { wide = omega arith; ascii = λ h. absurd (omega arith); three = λ h k. absurd (omega arith) }
+proper-of b s _ (three x y t u) = record {
+  wide = omega arith;
+  ascii = λ h. absurd (omega arith);
+  three = λ h k. (let i = getD-in s 1 (omega (arith, u)) in simp length-take (omega arith), omega (arith, t));
+}
+proper-of b s _ (four x y t u v) =
+    let e : b % 8 + 0xF0 ≡ b = omega arith in
+    let f = low-of t in
+    record { wide = omega arith; ascii = λ h. absurd (omega arith); three = λ h k. absurd (omega arith) }
 
 proper-char : (c : Char) (r : List ℕ) → 0 < width c → charAt (c .bytes ++ r) ≡ c → Proper c
 proper-char c r h e = go (c .bytes) refl h
   where
     go : (u : List ℕ) → c .bytes ≡ u → 0 < length u → Proper c
     go [] p k = absurd (omega arith)
-    go (b ∷ u) p k = subst Proper (ap (λ (l : List ℕ). charAt (l ++ r)) (sym p) ∙ e) (proper-of b (u ++ r) _ (view b (getD (u ++ r) 0 0) (getD (u ++ r) 1 0) (getD (u ++ r) 2 0)))
+    go (b ∷ u) p k = subst Proper (ap (λ (l : List ℕ). charAt (l ++ r)) (sym p) ∙ e) (proper-of b (u ++ r) _ (form b (getD (u ++ r) 0 0) (getD (u ++ r) 1 0) (getD (u ++ r) 2 0)))
 
 pub propers : (cs : List Char) → Read cs → Propers cs
 propers [] r = tt

@@ -32,23 +32,23 @@ again q x = eqb x q
 
 -- the clauses of `quoted`, by its tests
 module _ (q : ℕ) (c : Char) (cs : List Char) where
-  quoted-taken : quotedBody q true (c ∷ cs) ≡ further (width c) (quotedBody q false cs)
+  pub quoted-taken : quotedBody q true (c ∷ cs) ≡ further (width c) (quotedBody q false cs)
   unfolding quotedBody
   quoted-taken = refl
 
-  quoted-backslash : eqb (c .code) backslash ≡ true → quotedBody q false (c ∷ cs) ≡ further (width c) (quotedBody q true cs)
+  pub quoted-backslash : eqb (c .code) backslash ≡ true → quotedBody q false (c ∷ cs) ≡ further (width c) (quotedBody q true cs)
   unfolding quotedBody
   quoted-backslash e = rw (e, quotedBody)
 
-  quoted-double : eqb (c .code) backslash ≡ false → eqb (c .code) q ≡ true → eqb (first cs) q ≡ true → quotedBody q false (c ∷ cs) ≡ further (width c) (quotedBody q true cs)
+  pub quoted-double : eqb (c .code) backslash ≡ false → eqb (c .code) q ≡ true → eqb (first cs) q ≡ true → quotedBody q false (c ∷ cs) ≡ further (width c) (quotedBody q true cs)
   unfolding quotedBody
   quoted-double e f g = rw (e, f, g, quotedBody)
 
-  quoted-close : eqb (c .code) backslash ≡ false → eqb (c .code) q ≡ true → eqb (first cs) q ≡ false → quotedBody q false (c ∷ cs) ≡ closedBy (width c)
+  pub quoted-close : eqb (c .code) backslash ≡ false → eqb (c .code) q ≡ true → eqb (first cs) q ≡ false → quotedBody q false (c ∷ cs) ≡ closedBy (width c)
   unfolding quotedBody
   quoted-close e f g = rw (e, f, g, quotedBody)
 
-  quoted-other : eqb (c .code) backslash ≡ false → eqb (c .code) q ≡ false → quotedBody q false (c ∷ cs) ≡ further (width c) (quotedBody q false cs)
+  pub quoted-other : eqb (c .code) backslash ≡ false → eqb (c .code) q ≡ false → quotedBody q false (c ∷ cs) ≡ further (width c) (quotedBody q false cs)
   unfolding quotedBody
   quoted-other e f = rw (e, f, quotedBody)
 
@@ -64,7 +64,7 @@ quoted-shape q false (c ∷ cs) = go (eqb (c .code) backslash) (eqb (c .code) q)
     go false true false ex ey ez s u = closing [] c [] cs refl (eqb-true ey, refl) ez (λ after h. quoted-close q c after ex ey h ∙ ap closedBy (omega arith))
     go false false z ex ey ez s u = more c (λ vs e. quoted-other q c vs ex ey) u
 
-quoted-empty : (q : ℕ) → quotedBody q false [] ≡ openTo 0
+pub quoted-empty : (q : ℕ) → quotedBody q false [] ≡ openTo 0
 unfolding quotedBody
 quoted-empty q = refl
 
@@ -77,7 +77,7 @@ upTo-shape q (c ∷ cs) = go (eqb (c .code) q) refl (upTo-shape q cs)
     go true e s = closing [] c [] cs refl (eqb-true e, refl) refl (λ after h. rw (e, upTo) (ap closedBy (omega arith)))
     go false e s = more c (λ vs p. rw (e, upTo)) s
 
-upTo-close : (q : ℕ) (c : Char) (cs : List Char) → c .code ≡ q → upTo q (c ∷ cs) ≡ closedBy (width c)
+pub upTo-close : (q : ℕ) (c : Char) (cs : List Char) → c .code ≡ q → upTo q (c ∷ cs) ≡ closedBy (width c)
 unfolding upTo
 upTo-close q c cs e = let p : eqb (c .code) q ≡ true = ap (λ (n : ℕ). eqb n q) e ∙ eqb-same q in rw (p, upTo)
 

@@ -7,7 +7,7 @@ use mathlib.Core.Bool.{Bool, true, false}
 use lib.Dec.{eqb}
 use lib.ListN.{length, getD, take, length-append, length-take}
 use Rattle.rules.specs.Utf8.{formed, wellFormed, Char, width, charOf, charAt, validAfter, valid}
-use Rattle.rules.proofs.Formed.{view}
+use Rattle.rules.proofs.Decoding.{form-of}
 use Rattle.rules.proofs.Reading.{flatten, Read}
 use Rattle.rules.proofs.Proper.{formed-same, size-is, Under}
 use Rattle.rules.proofs.Masks.{Masks, end, keep, hide, hash, hashes, masks-under}
@@ -19,7 +19,7 @@ Formed (c ∷ cs) = (0 < wellFormed (c .bytes ++ flatten cs)) × Formed cs
 
 -- a character that is read has at least the bytes that its form has
 form-least : (c : Char) (r : List ℕ) → 0 < width c → charAt (c .bytes ++ r) ≡ c → wellFormed (c .bytes ++ r) ≤ width c
-form-least c r h e = size-is (c .bytes) r (wellFormed (c .bytes ++ r)) (view (getD (c .bytes ++ r) 0 0) (getD (c .bytes ++ r) 1 0) (getD (c .bytes ++ r) 2 0) (getD (c .bytes ++ r) 3 0)) h (ap (λ (d : Char). d .bytes) e)
+form-least c r h e = size-is (c .bytes) r (wellFormed (c .bytes ++ r)) (form-of (c .bytes ++ r)) h (ap (λ (d : Char). d .bytes) e)
 
 charOf-most : (w : ℕ) (s : List ℕ) → 0 < w → length (charOf w s .bytes) ≤ w
 unfolding charOf

@@ -1,0 +1,24 @@
+-- What a text has at a position, in the code's own enum; and what it is for a text to be well-formed from one index to another.
+use Prim.Native.Nat.{ℕ, zero, suc, _+_, _≤_}
+use mathlib.Core.Path.{_≡_}
+use mathlib.Core.List.{List, [], _∷_}
+use lib.ListN.{length, drop}
+use Rattle.rules.specs.Utf8.{wellFormed, codeOf, validLength}
+use Rattle.utf8.specs.declared.Unit.{Unit}
+use Rattle.utf8.specs.declared.Unit.the-variants.{Char, Broken, End}
+
+-- A character of length w that a text begins with; a byte that begins none where w is 0.
+abbrev pub unitOf : ℕ → List ℕ → Unit
+unitOf zero s = Broken
+unitOf (suc w) s = Char (codeOf (suc w) s) (suc w)
+
+-- What a text begins with.
+unfoldable pub unitAt : List ℕ → Unit
+unitAt [] = End
+unitAt (b ∷ s) = unitOf (wellFormed (b ∷ s)) (b ∷ s)
+
+-- The text is well-formed from i to j: what is valid from i on ends where what is valid from j on does.
+pub record Passes (s : List ℕ) (i j : ℕ) : Type 0 where
+  pub from : i ≤ j
+  pub upto : j ≤ length s
+  pub rest : validLength (drop i s) + i ≡ validLength (drop j s) + j

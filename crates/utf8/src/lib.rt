@@ -1,0 +1,227 @@
+// UTF-8, as RFC 3629 has it: what a text has at a position, and how far it is well-formed.
+ghost use mathlib.Core.Path.{_≡_};
+ghost use mathlib.Core.Bool.{true, _&&_};
+ghost use Prim.Native.Nat.{ℕ, _+_, _%_, _≤_, _<_};
+ghost use lib.ListN.{length, getD, drop};
+ghost use Rattle.rules.specs.Utf8.{within, utf8Tail, utf8Three, utf8Four, wellFormed, codeOf, validLength};
+ghost use Rattle.utf8.specs.Units.{unitAt, Passes};
+
+pub enum Unit {
+    Char { code: u32, len: usize },
+    Broken,
+    End,
+}
+
+// The byte at i, or 0 past the end.
+fn byte_at(s: &[u8], i: usize) -> u8
+    ensures { λ r. ⌜ r ≡ getD (now (s .entry)) i 0 ⌝ }
+{
+    if i < s.len() { s[i] } else { 0 }
+}
+
+fn is_tail(b: u8) -> bool
+    ensures { λ r. ⌜ r ≡ utf8Tail b ⌝ }
+{
+    (0x80 <= b) & (b <= 0xBF)
+}
+
+// The second byte from lo to hi, and a tail after it.
+fn one_more(lo: u8, hi: u8, b: u8, c: u8) -> bool
+    ensures { λ r. ⌜ r ≡ (within lo hi b && utf8Tail c) ⌝ }
+{
+    ((lo <= b) & (b <= hi)) & is_tail(c)
+}
+
+// Three bytes of which the first is E0 to EF. E0 and ED bound the second more than a tail is bounded.
+fn is_three(a: u8, b: u8, c: u8) -> bool
+    requires { ⌜ (0xE0 ≤ a) × (a < 0xF0) ⌝ }
+    ensures { λ r. ⌜ r ≡ utf8Three a b c ⌝ }
+{
+    if a == 0xE0 {
+        return one_more(0xA0, 0xBF, b, c);
+    }
+    if a == 0xED {
+        return one_more(0x80, 0x9F, b, c);
+    }
+    one_more(0x80, 0xBF, b, c)
+}
+
+// The second of four bytes of which the first is F0 or more: where it says so, two tails make them a character.
+fn is_second(a: u8, b: u8) -> bool
+    requires { ⌜ 0xF0 ≤ a ⌝ }
+    ensures { λ r. ⌜ ((c d : ℕ) → (r && utf8Tail c && utf8Tail d) ≡ utf8Four a b c d) ⌝ }
+{
+    if a == 0xF0 {
+        return (0x90 <= b) & (b <= 0xBF);
+    }
+    if a < 0xF4 {
+        return is_tail(b);
+    }
+    if a == 0xF4 {
+        return (0x80 <= b) & (b <= 0x8F);
+    }
+    false
+}
+
+// Four bytes of which the first is F0 or more.
+fn is_four(a: u8, b: u8, c: u8, d: u8) -> bool
+    requires { ⌜ 0xF0 ≤ a ⌝ }
+    ensures { λ r. ⌜ r ≡ utf8Four a b c d ⌝ }
+{
+    is_second(a, b) & is_tail(c) & is_tail(d)
+}
+
+// The length of the character at j, or 0 where none begins there. A form of four bytes has one test that all are there, which is faster.
+fn formed_at(s: &[u8], j: usize) -> usize
+    requires { ⌜ j < length (now s) ⌝ }
+    ensures { λ r. ⌜ r ≡ wellFormed (drop j (now (s .entry))) ⌝ }
+{
+    let a = s[j];
+    if a < 0xE0 {
+        if a < 0x80 {
+            return 1;
+        }
+        if a < 0xC2 {
+            return 0;
+        }
+        return if is_tail(byte_at(s, j + 1)) { 2 } else { 0 };
+    }
+    if a < 0xF0 {
+        return if is_three(a, byte_at(s, j + 1), byte_at(s, j + 2)) {
+            3
+        } else {
+            0
+        };
+    }
+    if s.len() - j < 4 {
+        return 0;
+    }
+    if is_four(a, s[j + 1], s[j + 2], s[j + 3]) {
+        4
+    } else {
+        0
+    }
+}
+
+// The low six bits of the byte at i, or 0 past the end.
+fn low_at(s: &[u8], i: usize) -> u32
+    ensures { λ r. ⌜ r ≡ getD (now (s .entry)) i 0 % 64 ⌝ }
+{
+    byte_at(s, i) as u32 % 64
+}
+
+// The code of the character of n bytes at i.
+fn code_at(s: &[u8], i: usize, n: usize) -> u32
+    requires { ⌜ i < length (now s) ⌝ }
+    ensures { λ r. ⌜ r ≡ codeOf n (drop i (now (s .entry))) ⌝ }
+{
+    let a = byte_at(s, i) as u32;
+    if n == 1 {
+        return a;
+    }
+    let b = low_at(s, i + 1);
+    if n == 2 {
+        return a % 32 * 64 + b;
+    }
+    let c = low_at(s, i + 2);
+    if n == 3 {
+        return a % 16 * 4096 + b * 64 + c;
+    }
+    a % 8 * 262144 + b * 4096 + c * 64 + low_at(s, i + 3)
+}
+
+// What the text has at i.
+pub fn unit_at(s: &[u8], i: usize) -> Unit
+    ensures { λ r. ⌜ r ≡ unitAt (drop i (now (s .entry))) ⌝ }
+{
+    if i >= s.len() {
+        return Unit::End;
+    }
+    let len = formed_at(s, i);
+    if len == 0 {
+        return Unit::Broken;
+    }
+    Unit::Char {
+        code: code_at(s, i, len),
+        len: len,
+    }
+}
+
+// Where it says so, the next 8 bytes are ASCII.
+fn ascii8(s: &[u8], i: usize) -> bool
+    requires { ⌜ i + 8 ≤ length (now s) ⌝ }
+    ensures { λ r. ⌜ (r ≡ true → Passes (now (s .entry)) i (i + 8)) ⌝ }
+{
+    let a = s[i] | s[i + 1] | s[i + 2] | s[i + 3] | s[i + 4] | s[i + 5] | s[i + 6] | s[i + 7];
+    a < 0x80
+}
+
+fn ascii16(s: &[u8], i: usize) -> bool
+    requires { ⌜ i + 16 ≤ length (now s) ⌝ }
+    ensures { λ r. ⌜ (r ≡ true → Passes (now (s .entry)) i (i + 16)) ⌝ }
+{
+    ascii8(s, i) & ascii8(s, i + 8)
+}
+
+fn ascii32(s: &[u8], i: usize) -> bool
+    requires { ⌜ i + 32 ≤ length (now s) ⌝ }
+    ensures { λ r. ⌜ (r ≡ true → Passes (now (s .entry)) i (i + 32)) ⌝ }
+{
+    ascii16(s, i) & ascii16(s, i + 16)
+}
+
+fn ascii64(s: &[u8], i: usize) -> bool
+    requires { ⌜ i + 64 ≤ length (now s) ⌝ }
+    ensures { λ r. ⌜ (r ≡ true → Passes (now (s .entry)) i (i + 64)) ⌝ }
+{
+    ascii32(s, i) & ascii32(s, i + 32)
+}
+
+// Past the ASCII from j on. A text that goes on with a longer character at once, as after a lone space, leaves before the blocks.
+fn ascii_end(s: &[u8], j: usize) -> usize
+    requires { ⌜ j ≤ length (now s) ⌝ }
+    ensures { λ r. ⌜ Passes (now (s .entry)) j r ⌝ }
+{
+    let mut k = j;
+    if byte_at(s, k) >= 0x80 {
+        return k;
+    }
+    while s.len() - k >= 64 {
+        if !ascii64(s, k) {
+            break;
+        }
+        k += 64;
+    }
+    while s.len() - k >= 8 {
+        if !ascii8(s, k) {
+            break;
+        }
+        k += 8;
+    }
+    while k < s.len() {
+        if s[k] >= 0x80 {
+            break;
+        }
+        k += 1;
+    }
+    k
+}
+
+// The length of the longest prefix of well-formed characters.
+pub fn valid_length(s: &[u8]) -> usize
+    ensures { λ r. ⌜ r ≡ validLength (now (s .entry)) ⌝ }
+{
+    let mut j = 0;
+    while j < s.len() {
+        if s[j] < 0x80 {
+            j = ascii_end(s, j + 1);
+        } else {
+            let n = formed_at(s, j);
+            if n == 0 {
+                return j;
+            }
+            j += n;
+        }
+    }
+    j
+}

@@ -1,0 +1,82 @@
+//! The Rust that the library was ported from, unchanged, with document 01's numbers for its kinds.
+use crate::lexer::token::Token;
+use crate::lexer::tokenizer::{tokenize, tokenize_up_to, tokenize_with_whitespace, Tokenizer};
+use crate::parser::syntax_kind::SyntaxKind as K;
+
+/// Document 01's numbers start at 1, in this order.
+const KINDS: [K; 48] = [
+    K::Whitespace,
+    K::Comment,
+    K::Number,
+    K::BareWord,
+    K::StringToken,
+    K::QuotedIdentifier,
+    K::HereDoc,
+    K::OpeningRoundBracket,
+    K::ClosingRoundBracket,
+    K::OpeningSquareBracket,
+    K::ClosingSquareBracket,
+    K::OpeningCurlyBrace,
+    K::ClosingCurlyBrace,
+    K::Comma,
+    K::Semicolon,
+    K::Dot,
+    K::Star,
+    K::DollarSign,
+    K::Plus,
+    K::Minus,
+    K::Arrow,
+    K::Slash,
+    K::Percent,
+    K::QuestionMark,
+    K::Colon,
+    K::DoubleColon,
+    K::Caret,
+    K::Equals,
+    K::Spaceship,
+    K::NotEquals,
+    K::Less,
+    K::LessOrEquals,
+    K::Greater,
+    K::GreaterOrEquals,
+    K::Concatenation,
+    K::At,
+    K::DoubleAt,
+    K::VerticalDelimiter,
+    K::EndOfStream,
+    K::ErrorMultilineCommentIsNotClosed,
+    K::ErrorSingleQuoteIsNotClosed,
+    K::ErrorDoubleQuoteIsNotClosed,
+    K::ErrorBackQuoteIsNotClosed,
+    K::ErrorWrongNumber,
+    K::ErrorSingleExclamationMark,
+    K::ErrorSinglePipeMark,
+    K::ErrorToken,
+    K::ErrorMaxQuerySizeExceeded,
+];
+
+/// A token as document 01 has it: kind, start, end.
+pub type Triple = (u32, u32, u32);
+
+fn triples(tokens: Vec<Token>) -> Vec<Triple> {
+    let number = |k: K| KINDS.iter().position(|x| *x == k).expect("a kind that the lexer makes") as u32 + 1;
+    tokens.into_iter().map(|t| (number(t.kind), t.start, t.end)).collect()
+}
+
+pub fn full(text: &str) -> Vec<Triple> {
+    triples(tokenize_with_whitespace(text))
+}
+
+pub fn lean(text: &str) -> Vec<Triple> {
+    triples(tokenize(text))
+}
+
+pub fn full_up_to(text: &str, position: usize) -> Vec<Triple> {
+    let mut t = Tokenizer::new(text);
+    t.set_include_whitespace(true);
+    triples(t.tokenize_up_to_position(position))
+}
+
+pub fn lean_up_to(text: &str, position: usize) -> Vec<Triple> {
+    triples(tokenize_up_to(text, position))
+}
