@@ -1,11 +1,9 @@
 // Decoding and classes as C functions, for the host's tests of these two alone.
-use utf8::Unit;
 ghost use mathlib.Core.Path.{_≡_};
 ghost use lib.ListN.{drop};
 ghost use Rattle.rules.specs.Utf8.{validLength};
 ghost use Rattle.rules.specs.Classes.{whiteSpace, alphabetic, alphanumeric};
-ghost use Rattle.utf8.specs.Units.{unitAt};
-ghost use Rattle.probe.specs.Probe.{unitCode, unitLength};
+ghost use Rattle.utf8.specs.Units.{unitAt, unitCode, unitLen};
 
 #[no_mangle]
 pub extern "C" fn probe_valid_length(text: &[u8]) -> usize
@@ -14,38 +12,18 @@ pub extern "C" fn probe_valid_length(text: &[u8]) -> usize
     utf8::valid_length(text)
 }
 
-fn code(unit: Unit) -> u32
-    ensures { λ r. ⌜ r ≡ unitCode unit ⌝ }
-{
-    match unit {
-        Unit::Char { code, len: _ } => code,
-        Unit::Broken => 0x110000,
-        Unit::End => 0x110000,
-    }
-}
-
-fn length(unit: Unit) -> usize
-    ensures { λ r. ⌜ r ≡ unitLength unit ⌝ }
-{
-    match unit {
-        Unit::Char { code: _, len } => len,
-        Unit::Broken => 1,
-        Unit::End => 0,
-    }
-}
-
 #[no_mangle]
 pub extern "C" fn probe_code_at(text: &[u8], at: usize) -> u32
     ensures { λ r. ⌜ r ≡ unitCode (unitAt (drop at (now (text .entry)))) ⌝ }
 {
-    code(utf8::unit_at(text, at))
+    utf8::unit_code(utf8::unit_at(text, at))
 }
 
 #[no_mangle]
 pub extern "C" fn probe_length_at(text: &[u8], at: usize) -> usize
-    ensures { λ r. ⌜ r ≡ unitLength (unitAt (drop at (now (text .entry)))) ⌝ }
+    ensures { λ r. ⌜ r ≡ unitLen (unitAt (drop at (now (text .entry)))) ⌝ }
 {
-    length(utf8::unit_at(text, at))
+    utf8::unit_len(utf8::unit_at(text, at))
 }
 
 #[no_mangle]

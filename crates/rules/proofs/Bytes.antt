@@ -55,21 +55,31 @@ module _ {X : Type 0} (add : ℕ → X → X) (add-none : (x : X) → add 0 x �
     pub taken-step : (G : List Char → X) → ((c : Char) (cs : List Char) → G (c ∷ cs) ≡ add (width c) (F cs)) → G (chars (drop i s)) ≡ add 1 (F (chars (drop (i + 1) s)))
     taken-step G g = ap G (chars-at s i h) ∙ g (charAt (drop i s)) (chars (drop (i + width (charAt (drop i s))) s)) ∙ over-rest
 
--- The next character is one of some characters of ASCII exactly where the next byte is.
-module _ (p : ℕ → Bool) (small : (c : ℕ) → 0x80 ≤ c → p c ≡ false) (none : p 0 ≡ false) (s : List ℕ) (i : ℕ) where
-  pub next-like : p (first (chars (drop i s))) ≡ p (getD s i 0)
-  next-like = go (decLt i (length s))
+-- What tells only characters of ASCII apart is the same of the next character and of the next byte.
+module _ {X : Type 0} (f : ℕ → X) (other : X) (high : (c : ℕ) → 0x80 ≤ c → f c ≡ other) (none : f 0 ≡ other) (s : List ℕ) (i : ℕ) where
+  pub next-value : f (first (chars (drop i s))) ≡ f (getD s i 0)
+  next-value = go (decLt i (length s))
     where
-      here : i < length s → Dec (getD s i 0 < 0x80) → p (first (chars (drop i s))) ≡ p (getD s i 0)
-      here h (yes l) = ap (λ (cs : List Char). p (first cs)) (chars-ascii s i h l)
+      here : i < length s → Dec (getD s i 0 < 0x80) → f (first (chars (drop i s))) ≡ f (getD s i 0)
+      here h (yes l) = ap (λ (cs : List Char). f (first cs)) (chars-ascii s i h l)
       here h (no l) =
           let e : getD (drop i s) 0 0 ≡ getD s i 0 = getD-drop i s 0 0 ∙ ap (λ (n : ℕ). getD s n 0) (add-zero i) in
-          ap (λ (cs : List Char). p (first cs)) (chars-at s i h) ∙ small (charAt (drop i s) .code) (code-high (drop i s) (omega arith)) ∙ sym (small (getD s i 0) (omega arith))
+          ap (λ (cs : List Char). f (first cs)) (chars-at s i h) ∙ high (charAt (drop i s) .code) (code-high (drop i s) (omega arith)) ∙ sym (high (getD s i 0) (omega arith))
 
-      go : Dec (i < length s) → p (first (chars (drop i s))) ≡ p (getD s i 0)
+      go : Dec (i < length s) → f (first (chars (drop i s))) ≡ f (getD s i 0)
       go (yes h) = here h (decLt (getD s i 0) 0x80)
-      go (no h) =
-          ap (λ (cs : List Char). p (first cs)) (chars-end s i (omega arith)) ∙ small noCode (omega arith) ∙ sym (ap p (List·getD-eq-default s 0 (omega arith)) ∙ none)
+      go (no h) = ap (λ (cs : List Char). f (first cs)) (chars-end s i (omega arith)) ∙ high noCode (omega arith) ∙ sym (ap f (List·getD-eq-default s 0 (omega arith)) ∙ none)
+
+-- The next character is one of some characters of ASCII exactly where the next byte is.
+pub next-like : (p : ℕ → Bool) → ((c : ℕ) → 0x80 ≤ c → p c ≡ false) → p 0 ≡ false → (s : List ℕ) (i : ℕ) → p (first (chars (drop i s))) ≡ p (getD s i 0)
+next-like p small none s i = next-value p false small none s i
 
 pub next-is : (x : ℕ) → 0 < x → x < 0x80 → (s : List ℕ) (i : ℕ) → eqb (first (chars (drop i s))) x ≡ eqb (getD s i 0) x
 next-is x p l s i = next-like (λ c. eqb c x) (λ c h. ne-eqb c x (λ e. omega arith)) (ne-eqb 0 x (λ e. omega arith)) s i
+
+-- The same of the character at an index.
+pub code-like : (p : ℕ → Bool) → ((c : ℕ) → 0x80 ≤ c → p c ≡ false) → p 0 ≡ false → (s : List ℕ) (i : ℕ) → i < length s → p (charAt (drop i s) .code) ≡ p (getD s i 0)
+code-like p small none s i h = ap (λ (cs : List Char). p (first cs)) (sym (chars-at s i h)) ∙ next-like p small none s i
+
+pub code-is : (x : ℕ) → 0 < x → x < 0x80 → (s : List ℕ) (i : ℕ) → i < length s → eqb (charAt (drop i s) .code) x ≡ eqb (getD s i 0) x
+code-is x p l s i h = ap (λ (cs : List Char). eqb (first cs) x) (sym (chars-at s i h)) ∙ next-is x p l s i

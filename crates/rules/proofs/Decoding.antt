@@ -201,7 +201,7 @@ pub form-of : (t : List ℕ) → Form (getD t 0 0) (getD t 1 0) (getD t 2 0) (ge
 form-of t = form (getD t 0 0) (getD t 1 0) (getD t 2 0) (getD t 3 0)
 
 -- a byte that is not 0 lies within its text
-within-text : (t : List ℕ) (k : ℕ) → 0 < getD t k 0 → k < length t
+pub within-text : (t : List ℕ) (k : ℕ) → 0 < getD t k 0 → k < length t
 within-text t k h = go (ltb k (length t)) refl
   where
     go : (x : Bool) → ltb k (length t) ≡ x → k < length t
@@ -265,7 +265,7 @@ chars-cons (b ∷ s) h =
     ap (λ (l : List Char). charAt (b ∷ s) ∷ l)
     (chars-skip (n - 1) s ∙ ap (λ (l : List ℕ). chars l) (drop-pos n (fits (b ∷ s) h .0) b s))
 
-some-left : (s : List ℕ) (i : ℕ) → i < length s → 0 < length (drop i s)
+pub some-left : (s : List ℕ) (i : ℕ) → i < length s → 0 < length (drop i s)
 some-left s i h = simp length-drop (omega arith)
 
 pub chars-at : (s : List ℕ) (i : ℕ) → i < length s → chars (drop i s) ≡ charAt (drop i s) ∷ chars (drop (i + width (charAt (drop i s))) s)

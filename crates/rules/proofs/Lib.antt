@@ -24,6 +24,11 @@ pub mod Quotes
 pub mod Dollars
 pub mod NumberParts
 pub mod Numbers
+-- The rules byte by byte, as code reads them: 2, 4, 5, 6 and 7.
+pub mod OperatorBytes
+pub mod Bodies
+pub mod HereDocs
+pub mod NumberBytes
 -- Demand 3.
 pub mod Visible
 pub mod Relex

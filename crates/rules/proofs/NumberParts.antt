@@ -74,22 +74,21 @@ module _ (us : List Char) {vs ws : List Char} (m : Kept vs ws) (n : ℕ) (h : n 
       rw (drop-append-le n us ws h, drop-append-le n us vs h) (digits-local p q t (drop n us) m (omega arith))
 
 -- the prefix
-choose : Bool → Bool → Opening
+abbrev pub choose : Bool → Bool → Opening
 choose s t = cond s (record { hex = true; size = 2 }) (cond t (record { hex = false; size = 2 }) (record { hex = false; size = 1 }))
 
 choose-small : (s t : Bool) → choose s t .size ≤ 1 → choose false false ≡ choose s t
-unfolding choose
 choose-small true t k = absurd (omega arith)
 choose-small false true k = absurd (omega arith)
 choose-small false false k = refl
 
 prefix-dim : (a b e x : ℕ) → (x ≡ e) ⊎ (x ≡ maskByte) → prefix a b e .size ≤ 1 → prefix a b x ≡ prefix a b e
-unfolding prefix choose
+unfolding prefix
 prefix-dim a b e x (inl p) h = ap (prefix a b) p
 prefix-dim a b e x (inr p) h = ap (prefix a b) p ∙ simp and-false (choose-small (eqb a zeroDigit && either smallX capitalX b && hexDigit e) (eqb a zeroDigit && either smallB capitalB b && either zeroDigit oneDigit e) h)
 
 pub prefix-size : (a b e : ℕ) → 1 ≤ prefix a b e .size
-unfolding prefix choose
+unfolding prefix
 prefix-size a b e = go (eqb a zeroDigit && either smallX capitalX b && hexDigit e) (eqb a zeroDigit && either smallB capitalB b && either zeroDigit oneDigit e)
   where
     go : (s t : Bool) → 1 ≤ choose s t .size

@@ -27,26 +27,26 @@ use Rattle.rules.proofs.Tests.{clash, eqb-true, or-cases, and-left, and
 use Rattle.rules.proofs.NumberParts.{joins, digits-digit, digits-join, digits-stop, fraction-dot, fraction-none, prefix-size, fraction-least, power-well, power-wrong, power-least, exponent-none, exponent-some, figures-local}
 
 -- the first n characters are there and are ASCII
-abbrev Lead : ℕ → List Char → Type 0
+abbrev pub Lead : ℕ → List Char → Type 0
 Lead zero cs = Unit {0}
 Lead (suc n) [] = ⊥
 Lead (suc n) (c ∷ cs) = (c .code < 128) × Lead n cs
 
-lead-one : (cs : List Char) → first cs < 128 → Lead 1 cs
+pub lead-one : (cs : List Char) → first cs < 128 → Lead 1 cs
 lead-one [] h = absurd (omega arith)
 lead-one (c ∷ cs) h = (h, tt)
 
-lead-suc : (n : ℕ) (cs : List Char) → first cs < 128 → Lead n (drop 1 cs) → Lead (suc n) cs
+pub lead-suc : (n : ℕ) (cs : List Char) → first cs < 128 → Lead n (drop 1 cs) → Lead (suc n) cs
 lead-suc n [] h l = absurd (omega arith)
 lead-suc n (c ∷ cs) h l = (h, l)
 
-lead-add : (m n : ℕ) (cs : List Char) → Lead m cs → Lead n (drop m cs) → Lead (m + n) cs
+pub lead-add : (m n : ℕ) (cs : List Char) → Lead m cs → Lead n (drop m cs) → Lead (m + n) cs
 lead-add zero n cs l k = rw zero-add k
 lead-add (suc m) n [] l k = absurd l
 lead-add (suc m) n (c ∷ cs) l k = rw suc-add (l .0, lead-add m n cs (l .1) k)
 
 module _ (p : ℕ → Bool) (small : (c : ℕ) → p c ≡ true → c < 128) where
-  lead-digits : (t : Bool) (cs : List Char) → Lead (digits p t cs) cs
+  pub lead-digits : (t : Bool) (cs : List Char) → Lead (digits p t cs) cs
   unfolding digits
   lead-digits t [] = tt
   lead-digits t (c ∷ cs) = go (p (c .code)) (joins p t (c .code) (first cs)) refl refl (λ t. lead-digits t cs)
@@ -69,14 +69,14 @@ module _ (p : ℕ → Bool) (small : (c : ℕ) → p c ≡ true → c < 128) whe
           let l'' : Lead (suc w) cs = rw add-one at l' in
           subst (λ (n : ℕ). Lead n cs) (sym (fraction-dot p w cs e)) (lead-add (suc w) (digits p false (drop (suc w) cs)) cs l'' (lead-digits false (drop (suc w) cs)))
 
-either-small : (a b c : ℕ) → a < 128 → b < 128 → either a b c ≡ true → c < 128
+pub either-small : (a b c : ℕ) → a < 128 → b < 128 → either a b c ≡ true → c < 128
 either-small a b c h k e = go (or-cases (eqb c a) (eqb c b) e)
   where
     go : (eqb c a ≡ true) ⊎ (eqb c b ≡ true) → c < 128
     go (inl p) = let z : c ≡ a = eqb-true p in omega arith
     go (inr p) = let z : c ≡ b = eqb-true p in omega arith
 
-hex-small : (c : ℕ) → hexDigit c ≡ true → c < 128
+pub hex-small : (c : ℕ) → hexDigit c ≡ true → c < 128
 hex-small c e = go (or-cases (digit c || within 0x41 0x46 c) (within 0x61 0x66 c) e)
   where
     low : (digit c ≡ true) ⊎ (within 0x41 0x46 c ≡ true) → c < 128
@@ -87,11 +87,11 @@ hex-small c e = go (or-cases (digit c || within 0x41 0x46 c) (within 0x61 0x66 c
     go (inl p) = low (or-cases (digit c) (within 0x41 0x46 c) p)
     go (inr p) = let h = within-true 0x61 0x66 c p in omega arith
 
-radix-small : (hex : Bool) (c : ℕ) → radixDigit hex c ≡ true → c < 128
+pub radix-small : (hex : Bool) (c : ℕ) → radixDigit hex c ≡ true → c < 128
 radix-small true c e = hex-small c e
 radix-small false c e = digit-small c e
 
-lead-opening : (cs : List Char) → digit (first cs) ≡ true → Lead (opening cs .size) cs
+pub lead-opening : (cs : List Char) → digit (first cs) ≡ true → Lead (opening cs .size) cs
 unfolding prefix
 lead-opening cs h =
     let a : ℕ = first cs in
@@ -105,7 +105,7 @@ lead-opening cs h =
     (λ p. lead-suc 1 cs k (lead-one (drop 1 cs) (either-small smallB capitalB b (omega arith) (omega arith) (and-right (eqb a zeroDigit) (either smallB capitalB b) (and-left (eqb a zeroDigit && either smallB capitalB b) (either zeroDigit oneDigit e) p)))))
     (lead-one cs k))
 
-lead-mantissa : (cs : List Char) → digit (first cs) ≡ true → Lead (mantissa cs) cs
+pub lead-mantissa : (cs : List Char) → digit (first cs) ≡ true → Lead (mantissa cs) cs
 unfolding mantissa
 lead-mantissa cs h =
     let o = opening cs in
@@ -113,18 +113,18 @@ lead-mantissa cs h =
     lead-fraction p (radix-small (o .hex)) (o .size + digits p false (drop (o .size) cs)) cs
     (lead-add (o .size) (digits p false (drop (o .size) cs)) cs (lead-opening cs h) (lead-digits p (radix-small (o .hex)) false (drop (o .size) cs)))
 
-lead-power : (n : ℕ) (cs : List Char) → Lead n cs → Lead (power n cs .size) cs
+pub lead-power : (n : ℕ) (cs : List Char) → Lead n cs → Lead (power n cs .size) cs
 lead-power n cs l = go (digit (first (drop n cs))) refl
   where
     go : (b : Bool) → digit (first (drop n cs)) ≡ b → Lead (power n cs .size) cs
     go true e = subst (λ (f : Figures). Lead (f .size) cs) (sym (power-well n cs e)) (lead-add n (digits digit false (drop n cs)) cs l (lead-digits digit digit-small false (drop n cs)))
     go false e = subst (λ (f : Figures). Lead (f .size) cs) (sym (power-wrong n cs e)) l
 
-marks-small : (hex : Bool) (c : ℕ) → marks hex c ≡ true → c < 128
+pub marks-small : (hex : Bool) (c : ℕ) → marks hex c ≡ true → c < 128
 marks-small true c e = either-small smallP capitalP c (omega arith) (omega arith) e
 marks-small false c e = either-small smallE capitalE c (omega arith) (omega arith) e
 
-lead-exponent : (hex : Bool) (cs : List Char) → Lead (exponent hex cs .size) cs
+pub lead-exponent : (hex : Bool) (cs : List Char) → Lead (exponent hex cs .size) cs
 lead-exponent hex cs = go (marks hex (first cs)) (either plus dash (first (drop 1 cs))) refl refl
   where
     G : Figures → Type 0
@@ -135,12 +135,12 @@ lead-exponent hex cs = go (marks hex (first cs)) (either plus dash (first (drop 
     go true true e es = subst G (sym (exponent-some hex cs e)) (lead-power (suc (signs (first (drop 1 cs)))) cs (rw es (lead-suc 1 cs (marks-small hex (first cs) e) (lead-one (drop 1 cs) (either-small plus dash (first (drop 1 cs)) (omega arith) (omega arith) es)))))
     go true false e es = subst G (sym (exponent-some hex cs e)) (lead-power (suc (signs (first (drop 1 cs)))) cs (rw es (lead-one cs (marks-small hex (first cs) e))))
 
-lead-figures : (d : Bool) (cs : List Char) → digit (first cs) ≡ true → Lead (figures d cs .size) cs
+pub lead-figures : (d : Bool) (cs : List Char) → digit (first cs) ≡ true → Lead (figures d cs .size) cs
 unfolding figures
 lead-figures true cs h = lead-suc (digits digit false (drop 1 cs)) cs (digit-small (first cs) h) (lead-digits digit digit-small false (drop 1 cs))
 lead-figures false cs h = lead-add (mantissa cs) (exponent (opening cs .hex) (drop (mantissa cs) cs) .size) cs (lead-mantissa cs h) (lead-exponent (opening cs .hex) (drop (mantissa cs) cs))
 
-figures-least : (d : Bool) (cs : List Char) → 1 ≤ figures d cs .size
+pub figures-least : (d : Bool) (cs : List Char) → 1 ≤ figures d cs .size
 unfolding figures mantissa
 figures-least true cs = omega arith
 figures-least false cs =
@@ -163,24 +163,24 @@ lead-widths (suc n) (c ∷ cs) p l =
     omega arith
 
 -- the clauses of `number` and `closing`
-abbrev wordy : ℕ → Bool
+abbrev pub wordy : ℕ → Bool
 wordy c = alphabetic c || eqb c underscore
 
 module _ (d : Bool) (cs : List Char) where
-  number-wrong : figures d cs .well ≡ false → number d cs ≡ is ErrorWrongNumber (figures d cs .size)
+  pub number-wrong : figures d cs .well ≡ false → number d cs ≡ is ErrorWrongNumber (figures d cs .size)
   unfolding number
   number-wrong e = rw (e, number)
 
-  number-well : figures d cs .well ≡ true → number d cs ≡ closing (figures d cs .size) cs
+  pub number-well : figures d cs .well ≡ true → number d cs ≡ closing (figures d cs .size) cs
   unfolding number
   number-well e = rw (e, number)
 
 module _ (n : ℕ) (cs : List Char) where
-  closing-number : wordy (first (drop n cs)) ≡ false → closing n cs ≡ is Number n
+  pub closing-number : wordy (first (drop n cs)) ≡ false → closing n cs ≡ is Number n
   unfolding closing
   closing-number e = rw (e, closing)
 
-  closing-word : wordy (first (drop n cs)) ≡ true → closing n cs ≡ is (cond (allChars numberWord (take n cs)) BareWord ErrorWrongNumber) (n + run numberWord (drop n cs))
+  pub closing-word : wordy (first (drop n cs)) ≡ true → closing n cs ≡ is (cond (allChars numberWord (take n cs)) BareWord ErrorWrongNumber) (n + run numberWord (drop n cs))
   unfolding closing
   closing-word e = rw (e, closing)
 

@@ -68,15 +68,14 @@ pair-plain a b =
     (cond-rule F (two a b equals equals) _ _ (λ e. refl)
     (cond-rule F (two a b equals greater) _ _ (λ e. refl) refl)))))))))))
 
-Small : ℕ → ℕ → ℕ → Type 0
+abbrev pub Small : ℕ → ℕ → ℕ → Type 0
 Small a b k = (j : ℕ) → k ≡ suc j → (a < 128) × (b < 128)
 
 small : (a b m n k : ℕ) → m < 128 → n < 128 → two a b m n ≡ true → Small a b k
-unfolding Small
 small a b m n k p q e j h = let z = two-true a b m n e in omega arith
 
-pair-small : (a b : ℕ) → Small a b (pair a b)
-unfolding pair Small
+pub pair-small : (a b : ℕ) → Small a b (pair a b)
+unfolding pair
 pair-small a b =
     cond-rule (Small a b) (two a b exclamation equals) _ _ (small a b exclamation equals _ (omega arith) (omega arith))
     (cond-rule (Small a b) (two a b less greater) _ _ (small a b less greater _ (omega arith) (omega arith))
@@ -141,7 +140,6 @@ module _ (d : Bool) (c : Char) where
       plain-step d (c ∷ x ∷ y ∷ cs) c (x ∷ y ∷ []) cs Spaceship 3 refl refl (omega arith) (λ after k. reads (x ∷ y ∷ cs) (x ∷ y ∷ []) cs refl e after k ∙ operator-three c (x ∷ y ∷ after) s)
 
   two-step : (k : ℕ) (cs : List Char) → Read (c ∷ cs) → rule (c .code) (first cs) ≡ others → spaceship (c .code) (first cs) (first (drop 1 cs)) ≡ false → pair (c .code) (first cs) ≡ suc k → Step d (c ∷ cs)
-  unfolding Small
   two-step k [] r e s p = absurd (let z = pair-small (c .code) (first []) k p in omega arith)
   two-step k (x ∷ cs) r e s p =
       let P = propers (c ∷ x ∷ cs) r in

@@ -59,7 +59,7 @@ unfolding alphanumeric
 alphanumeric-none = cc (alphabetic-none, numeric-none)
 
 -- Two tests that agree at each number below n: computed, and then known of any one.
-abbrev agree : (ℕ → Bool) → (ℕ → Bool) → ℕ → Bool
+abbrev pub agree : (ℕ → Bool) → (ℕ → Bool) → ℕ → Bool
 agree f g zero = true
 agree f g (suc n) = Bool·beq (f n) (g n) && agree f g n
 
@@ -69,7 +69,7 @@ beq-eq true false h = sym h
 beq-eq false true h = h
 beq-eq false false h = refl
 
-agree-at : (f g : ℕ → Bool) (n : ℕ) → agree f g n ≡ true → (c : ℕ) → c < n → f c ≡ g c
+pub agree-at : (f g : ℕ → Bool) (n : ℕ) → agree f g n ≡ true → (c : ℕ) → c < n → f c ≡ g c
 agree-at f g zero h c l = absurd (not-suc-le-zero l)
 agree-at f g (suc n) h c l =
     let b = and-both (Bool·beq (f n) (g n)) (agree f g n) h in

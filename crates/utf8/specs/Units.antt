@@ -3,7 +3,7 @@ use Prim.Native.Nat.{ℕ, zero, suc, _+_, _≤_}
 use mathlib.Core.Path.{_≡_}
 use mathlib.Core.List.{List, [], _∷_}
 use lib.ListN.{length, drop}
-use Rattle.rules.specs.Utf8.{wellFormed, codeOf, validLength}
+use Rattle.rules.specs.Utf8.{noCode, wellFormed, codeOf, validLength}
 use Rattle.utf8.specs.declared.Unit.{Unit}
 use Rattle.utf8.specs.declared.Unit.the-variants.{Char, Broken, End}
 
@@ -16,6 +16,18 @@ unitOf (suc w) s = Char (codeOf (suc w) s) (suc w)
 unfoldable pub unitAt : List ℕ → Unit
 unitAt [] = End
 unitAt (b ∷ s) = unitOf (wellFormed (b ∷ s)) (b ∷ s)
+
+-- The code of a unit; of no character, a code past all of them.
+abbrev pub unitCode : Unit → ℕ
+unitCode (Char c n) = c
+unitCode Broken = noCode
+unitCode End = noCode
+
+-- The bytes of a unit.
+abbrev pub unitLen : Unit → ℕ
+unitLen (Char c n) = n
+unitLen Broken = 1
+unitLen End = 0
 
 -- The text is well-formed from i to j: what is valid from i on ends where what is valid from j on does.
 pub record Passes (s : List ℕ) (i j : ℕ) : Type 0 where

@@ -4,7 +4,7 @@ ghost use mathlib.Core.Bool.{true, _&&_};
 ghost use Prim.Native.Nat.{ℕ, _+_, _%_, _≤_, _<_};
 ghost use lib.ListN.{length, getD, drop};
 ghost use Rattle.rules.specs.Utf8.{within, utf8Tail, utf8Three, utf8Four, wellFormed, codeOf, validLength};
-ghost use Rattle.utf8.specs.Units.{unitAt, Passes};
+ghost use Rattle.utf8.specs.Units.{unitAt, unitCode, unitLen, Passes};
 
 pub enum Unit {
     Char { code: u32, len: usize },
@@ -13,7 +13,7 @@ pub enum Unit {
 }
 
 // The byte at i, or 0 past the end.
-fn byte_at(s: &[u8], i: usize) -> u8
+pub fn byte_at(s: &[u8], i: usize) -> u8
     ensures { λ r. ⌜ r ≡ getD (now (s .entry)) i 0 ⌝ }
 {
     if i < s.len() { s[i] } else { 0 }
@@ -144,6 +144,28 @@ pub fn unit_at(s: &[u8], i: usize) -> Unit
     Unit::Char {
         code: code_at(s, i, len),
         len: len,
+    }
+}
+
+// The code of a unit; of no character, a code past all of them.
+pub fn unit_code(u: Unit) -> u32
+    ensures { λ r. ⌜ r ≡ unitCode u ⌝ }
+{
+    match u {
+        Unit::Char { code, len: _ } => code,
+        Unit::Broken => 0x110000,
+        Unit::End => 0x110000,
+    }
+}
+
+// The bytes of a unit.
+pub fn unit_len(u: Unit) -> usize
+    ensures { λ r. ⌜ r ≡ unitLen u ⌝ }
+{
+    match u {
+        Unit::Char { code: _, len } => len,
+        Unit::Broken => 1,
+        Unit::End => 0,
     }
 }
 

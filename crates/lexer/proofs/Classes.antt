@@ -1,0 +1,77 @@
+-- The classes by the code's tests: ASCII's white space by comparisons, its word bytes by one bit of a mask, other words by the tables.
+-- Assumes nothing.
+use Prim.Native.Nat.{ℕ, _/_, _%_, _^_, _≤_, _<_}
+use native.Mathlib.Omega.{arith}
+use mathlib.Core.Path.{_≡_, refl, sym, ap, _∙_}
+use mathlib.Core.List.{List, _∷_}
+use mathlib.Core.Bool.{Bool, true, false, _&&_, _||_, or-false, and-false, or-assoc}
+use lib.ListN.{drop}
+use lib.Dec.{leb, ltb, eqb}
+use borrow.Author.Tests.{ne-eqb, lt-leb, ltb-true, ltb-false}
+use Rattle.rules.specs.Utf8.{within, noCode}
+use Rattle.rules.specs.Characters.{underscore, dollar}
+use Rattle.rules.specs.Tables.{alphabeticTable, numericTable}
+use Rattle.rules.specs.Classes.{inRanges, whiteSpace, alphabetic, numeric, alphanumeric}
+use Rattle.rules.specs.Words.{wordCharacter}
+use Rattle.rules.specs.Numbers.{numberWord}
+use Rattle.rules.proofs.Tests.{or-left, or-right}
+use Rattle.rules.proofs.Tables.{agree-at, ascii-space, alphanumeric-none}
+use Rattle.lexer.specs.Words.{wordWith, wordMask}
+
+pub space-byte : (b : ℕ) → (eqb b 0x20 || within 0x09 0x0D b) ≡ (ltb b 0x80 && whiteSpace b)
+space-byte b = go (ltb b 0x80) refl
+  where
+    go : (t : Bool) → ltb b 0x80 ≡ t → (eqb b 0x20 || within 0x09 0x0D b) ≡ (t && whiteSpace b)
+    go true h = sym (ascii-space b (ltb-true b 0x80 h))
+    go false h = let l = ltb-false b 0x80 h in simp (ne-eqb b 0x20 (λ e. omega arith), lt-leb b 0x0D (omega arith), and-false)
+
+pub word-none : (d : Bool) → wordWith d noCode ≡ false
+word-none true = rw alphanumeric-none
+word-none false = rw alphanumeric-none
+
+pub word-past : (d : Bool) (c : ℕ) → 0x80 ≤ c → wordWith d c ≡ alphanumeric c
+word-past true c h = simp (ne-eqb c underscore (λ e. omega arith), ne-eqb c dollar (λ e. omega arith), or-false)
+word-past false c h = simp (ne-eqb c underscore (λ e. omega arith), or-false)
+
+-- Latin letters past ASCII: three of the table's ranges, after its first five.
+abbrev latin : ℕ → Bool
+latin c = leb 0xC0 c && ltb c 0xD7 || leb 0xD8 c && ltb c 0xF7 || leb 0xF8 c && ltb c 0x2C2
+
+next-range : (lo hi : ℕ) (t : List ℕ) (c : ℕ) → inRanges t c ≡ true → inRanges (lo ∷ hi ∷ t) c ≡ true
+unfolding inRanges
+next-range lo hi t c e = or-right (leb lo c && ltb c hi) (inRanges t c) e
+
+three-ranges : (t : List ℕ) (c : ℕ) → latin c ≡ true
+    → inRanges (0xC0 ∷ 0xD7 ∷ 0xD8 ∷ 0xF7 ∷ 0xF8 ∷ 0x2C2 ∷ t) c ≡ true
+unfolding inRanges
+three-ranges t c e = simp or-assoc at (or-left (latin c) (inRanges t c) e)
+
+latin-alphabetic : (c : ℕ) → latin c ≡ true → alphabetic c ≡ true
+unfolding alphabetic alphabeticTable
+latin-alphabetic c e =
+    next-range 0x41 0x5B (drop 2 alphabeticTable) c
+    (next-range 0x61 0x7B (drop 4 alphabeticTable) c
+    (next-range 0xAA 0xAB (drop 6 alphabeticTable) c
+    (next-range 0xB5 0xB6 (drop 8 alphabeticTable) c
+    (next-range 0xBA 0xBB (drop 10 alphabeticTable) c
+    (three-ranges (drop 16 alphabeticTable) c e)))))
+
+pub latin-word : (d : Bool) (c : ℕ) → latin c ≡ true → wordWith d c ≡ true
+unfolding alphanumeric
+latin-word true c e = rw (latin-alphabetic c e)
+latin-word false c e = rw (latin-alphabetic c e)
+
+abbrev bit : ℕ → ℕ → Bool
+bit m b = eqb ((m / 2 ^ (b % 64)) % 2) 1
+
+ascii-bit : (d : Bool) (b : ℕ) → b < 0x80 → bit (wordMask d b) b ≡ wordWith d b
+unfolding alphanumeric alphabetic numeric inRanges alphabeticTable numericTable
+ascii-bit true = agree-at (λ b. bit (wordMask true b) b) numberWord 0x80 refl
+ascii-bit false = agree-at (λ b. bit (wordMask false b) b) wordCharacter 0x80 refl
+
+pub word-bit : (d : Bool) (b m : ℕ) → m ≡ wordMask d b → (ltb b 0x80 && bit m b) ≡ (ltb b 0x80 && wordWith d b)
+word-bit d b m e = ap (λ (m : ℕ). ltb b 0x80 && bit m b) e ∙ go (ltb b 0x80) refl
+  where
+    go : (t : Bool) → ltb b 0x80 ≡ t → (t && bit (wordMask d b) b) ≡ (t && wordWith d b)
+    go true h = ascii-bit d b (ltb-true b 0x80 h)
+    go false h = refl

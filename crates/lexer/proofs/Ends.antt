@@ -1,0 +1,15 @@
+-- What a reader answers, from what is known of the lexeme or of the part. Assumes nothing.
+use Prim.Native.Nat.{ℕ, _+_}
+use mathlib.Core.Path.{_≡_, sym, ap, ap₂, _∙_}
+use mathlib.Core.Bool.{Bool}
+use Rattle.rules.specs.Lexeme.{Lexeme, is}
+use Rattle.rules.specs.Numbers.{Figures}
+use Rattle.lexer.specs.declared.tokenizer.Lexed.{Lexed}
+use Rattle.lexer.specs.declared.tokenizer.Part.{Part}
+use Rattle.lexer.specs.Ends.{endsAt, partAt}
+
+pub part-is : (at : ℕ) {f : Figures} {well : Bool} {n : ℕ} → f ≡ record { well = well; size = n } → (end : ℕ) → end ≡ at + n → record { well = well; end = end } ≡ partAt at f
+part-is at {f} {well} {n} e end p = ap {B = Part} (λ (m : ℕ). record { well = well; end = m }) p ∙ sym (ap (partAt at) e)
+
+pub lexed-is : (at : ℕ) {l : Lexeme} {kind n : ℕ} → l ≡ is kind n → (end : ℕ) → end ≡ at + n → record { kind = kind; end = end } ≡ endsAt at l
+lexed-is at {l} {kind} {n} e end p = ap {B = Lexed} (λ (m : ℕ). record { kind = kind; end = m }) p ∙ sym (ap (endsAt at) e)

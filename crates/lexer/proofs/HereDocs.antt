@@ -1,0 +1,63 @@
+-- What `read_dollar` answers by the tag's end and by the search. Assumes nothing.
+use Prim.Native.Nat.{ℕ, _+_, _-_, _*_, _≤_}
+use native.Mathlib.Omega.{arith}
+use mathlib.Core.Path.{_≡_, refl, sym, ap, _∙_}
+use mathlib.Core.List.{List}
+use mathlib.Core.Option.{Option, some, none}
+use lib.ListN.{length, getD, drop}
+use Rattle.rules.specs.Utf8.{chars}
+use Rattle.rules.specs.Characters.{dollar}
+use Rattle.rules.specs.Kinds.{HereDoc, DollarSign}
+use Rattle.rules.specs.Dollars.{find, hereDoc, dollarLexeme}
+use Rattle.rules.proofs.Decoding.{within-text}
+use Rattle.rules.proofs.Dollars.{here-none}
+use Rattle.rules.proofs.HereDocs.{tags-none, opening, opening-first, opening-plain, opening-size, here-by, later}
+use Rattle.lexer.specs.declared.tokenizer.Lexed.{Lexed}
+use Rattle.lexer.specs.Ends.{endsAt}
+use Rattle.lexer.specs.HereDocs.{Delimiter, TagEnd, foundEnd}
+
+-- The tag bytes after the `$` at `start` end at e.
+module _ (s : List ℕ) (start e : ℕ) (t : TagEnd s (start + 1) e) where
+  abbrev answer : Lexed
+  answer = endsAt start (dollarLexeme (hereDoc (chars (drop (start + 1) s))))
+
+  lone : hereDoc (chars (drop (start + 1) s)) ≡ none → record { kind = DollarSign; end = start + 1 } ≡ answer
+  lone h = sym (ap (λ (o : Option ℕ). endsAt start (dollarLexeme o)) h)
+
+  pub no-tag : (getD s e 0 ≡ dollar → ⊥) → record { kind = DollarSign; end = start + 1 } ≡ answer
+  no-tag n =
+      let f = t .from in
+      let q : e ≡ start + 1 + (e - (start + 1)) = omega arith in
+      lone (here-none (chars (drop (start + 1) s)) (tags-none s (e - (start + 1)) (start + 1) (λ k u l. t .tags k (omega arith) l) (rw q at (t .over)) (rw q at n)))
+
+  module _ (a : getD s start 0 ≡ dollar) (z : getD s e 0 ≡ dollar) where
+    pub tag-closed : e + 1 ≤ length s
+    tag-closed = let h = within-text s e (omega arith) in omega arith
+
+    pub opens : Delimiter (opening s start e)
+    opens = (opening-first s start e (t .from) a (t .tags) z, opening-plain s start e (t .from) a (t .tags) z)
+
+    -- r: where the search after the tag found the closing delimiter's end
+    module _ (r : ℕ) (found : r ≡ foundEnd (e + 1) (length (opening s start e)) (find (opening s start e) (chars (drop (e + 1) s)))) where
+      by : (o : Option ℕ) → find (opening s start e) (chars (drop (e + 1) s)) ≡ o → (hereDoc (chars (drop (start + 1) s)) ≡ later (2 * (e + 1 - start)) o) × (r ≡ foundEnd (e + 1) (e + 1 - start) o)
+      by o f = (
+        here-by s start e (t .from) a (t .tags) z o f,
+        found ∙ ap (λ (n : ℕ). foundEnd (e + 1) n (find (opening s start e) (chars (drop (e + 1) s)))) (opening-size s start e (t .from) a (t .tags) z) ∙ ap (foundEnd (e + 1) (e + 1 - start)) f,
+      )
+
+      pub not-found : r ≡ 0 → record { kind = DollarSign; end = start + 1 } ≡ answer
+      not-found y = go (find (opening s start e) (chars (drop (e + 1) s))) refl
+        where
+          go : (o : Option ℕ) → find (opening s start e) (chars (drop (e + 1) s)) ≡ o → record { kind = DollarSign; end = start + 1 } ≡ answer
+          go none f = lone (by none f .0)
+          go (some m) f = let h = by (some m) f .1 in absurd (omega arith)
+
+      pub here-found : (r ≡ 0 → ⊥) → record { kind = HereDoc; end = r } ≡ answer
+      here-found y = go (find (opening s start e) (chars (drop (e + 1) s))) refl
+        where
+          go : (o : Option ℕ) → find (opening s start e) (chars (drop (e + 1) s)) ≡ o → record { kind = HereDoc; end = r } ≡ answer
+          go none f = absurd (y (by none f .1))
+          go (some m) f =
+              let h = by (some m) f .1 in
+              let u = t .from in
+              ap (λ (n : ℕ). record { kind = HereDoc; end = n }) (omega arith) ∙ sym (ap (λ (o : Option ℕ). endsAt start (dollarLexeme o)) (by (some m) f .0))

@@ -1,0 +1,7 @@
+pub mod Ends
+pub mod Runs
+pub mod Classes
+pub mod Comments
+pub mod Bodies
+pub mod HereDocs
+pub mod Matches

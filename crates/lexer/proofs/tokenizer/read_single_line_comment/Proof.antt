@@ -1,0 +1,43 @@
+-- The run is read byte by byte: one that is no line feed is passed, and at a line feed the run ends. Assumes nothing.
+use Prim.Native.Nat.{_-_}
+use mathlib.Core.Path.{refl, ap}
+use native.Mathlib.Omega.{arith}
+use denote.Ref.{now}
+use lib.ListN.{length}
+use Rattle.rules.specs.Spaces.{notLineFeed}
+use Rattle.lexer.proofs.Runs.{Reaches, run-end, ascii-stop, line-more}
+use Rattle.lexer.proofs.tokenizer.read_single_line_comment.Statement.{statement}
+use Rattle.lexer.proofs.tokenizer.read_single_line_comment.Tie as tie
+
+abbrev Inv-loop : tie.InvT-loop
+Inv-loop text at j₀ j = Reaches notLineFeed text at j
+
+abbrev μ-loop : tie.MeasureT-loop
+μ-loop text at j₀ j = length text - j
+
+returns : tie.Need-returns Inv-loop μ-loop
+returns c =
+    let l = c .before .before .before in
+    omega (arith, ascii-stop notLineFeed (now (l .before .args .text)) (l .loop .j) (omega arith) (omega arith) (ap notLineFeed (c .if1 .taken)))
+
+loop-again : tie.Need-loop-again Inv-loop μ-loop
+loop-again c =
+    let l = c .before .before .before in
+    omega (arith, line-more (now (l .before .args .text)) (l .loop .j) (omega arith) (c .if1 .left))
+
+returns-2 : tie.Need-returns-2 Inv-loop μ-loop
+returns-2 c = let l = c .before in omega (arith, run-end notLineFeed (now (l .before .args .text)) (l .loop .j) (omega arith))
+
+pub read-single-line-comment-spec : {M : Type 1} → statement M
+read-single-line-comment-spec =
+    tie.close
+    (tie.spec
+    Inv-loop
+    μ-loop
+    (λ c. refl)
+    (λ c. omega arith)
+    returns
+    (λ c. omega arith)
+    (λ c. omega arith)
+    loop-again
+    returns-2)

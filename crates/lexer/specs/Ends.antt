@@ -1,0 +1,28 @@
+-- What the readers answer, in the code's own structs.
+use Prim.Native.Nat.{ℕ, _+_}
+use mathlib.Core.List.{List, [], _∷_}
+use Rattle.rules.specs.Utf8.{Char}
+use Rattle.rules.specs.Kinds.{EndOfStream}
+use Rattle.rules.specs.Lexeme.{Lexeme, is}
+use Rattle.rules.specs.Operators.{operator}
+use Rattle.rules.specs.Numbers.{Opening, Figures}
+use Rattle.lexer.specs.declared.tokenizer.Lexed.{Lexed}
+use Rattle.lexer.specs.declared.tokenizer.Opened.{Opened}
+use Rattle.lexer.specs.declared.tokenizer.Part.{Part}
+
+-- A lexeme that starts at an offset: its kind, and where it ends.
+abbrev pub endsAt : ℕ → Lexeme → Lexed
+endsAt at l = record { kind = l .kind; end = at + l .size }
+
+-- How a number opens.
+abbrev pub opened : Opening → Opened
+opened o = record { hex = o .hex; size = o .size }
+
+-- A part of a number that starts at an offset: whether it ended well, and where.
+abbrev pub partAt : ℕ → Figures → Part
+partAt at f = record { well = f .well; end = at + f .size }
+
+-- The operator that a text begins with.
+abbrev pub operatorAt : List Char → Lexeme
+operatorAt [] = is EndOfStream 0
+operatorAt (c ∷ cs) = operator c cs

@@ -1,0 +1,3 @@
+// The tokenizer: one token at a cursor.
+pub mod syntax_kind;
+pub mod tokenizer;

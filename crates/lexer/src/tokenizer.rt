@@ -1,0 +1,644 @@
+// The readers, under the Rust's names and in its order. Each takes the text and an offset; none needs the text to be UTF-8.
+use crate::syntax_kind::SyntaxKind;
+use classes::tables::AlphabeticTable;
+use classes::tables::NumericTable;
+use utf8::byte_at;
+use utf8::unit_at;
+use utf8::unit_code;
+use utf8::unit_len;
+ghost use mathlib.Core.Path.{_≡_};
+ghost use mathlib.Core.Bool.{Bool, true, false, cond, _&&_, _||_};
+ghost use Prim.Native.Nat.{ℕ, _+_, _≤_, _<_};
+ghost use lib.ListN.{length, getD, drop};
+ghost use lib.Dec.{ltb, eqb};
+ghost use Rattle.rules.specs.Utf8.{charAt, chars};
+ghost use Rattle.rules.specs.Tables.{alphabeticTable, numericTable};
+ghost use Rattle.rules.specs.Classes.{whiteSpace, digit, hexDigit};
+ghost use Rattle.rules.specs.Characters.{dollar, underscore, backslash};
+ghost use Rattle.rules.specs.Kinds.{Comment, ErrorMultilineCommentIsNotClosed};
+ghost use Rattle.rules.specs.Lexeme.{two, run, enclosed};
+ghost use Rattle.rules.specs.Spaces.{notLineFeed, commentBody};
+ghost use Rattle.rules.specs.Operators.{single, pair, spaceship};
+ghost use Rattle.rules.specs.Words.{wordCharacter};
+ghost use Rattle.rules.specs.Quotes.{quotedBody, upTo};
+ghost use Rattle.rules.specs.Dollars.{tagByte, begins, find, hereDoc, dollarLexeme};
+ghost use Rattle.rules.specs.Numbers.{digits, radixDigit, opening, fraction, marks, signs, exponent};
+ghost use Rattle.lexer.specs.Ends.{endsAt, opened, partAt, operatorAt};
+ghost use Rattle.lexer.specs.Steps.{Step};
+ghost use Rattle.lexer.specs.Words.{wordWith, wordMask};
+ghost use Rattle.lexer.specs.Quotes.{curlyClose};
+ghost use Rattle.lexer.specs.HereDocs.{Ascii, Delimiter, TagEnd, foundEnd};
+
+// What a reader finds: the kind, and where it ends.
+pub struct Lexed {
+    pub kind: u32,
+    pub end: usize,
+}
+
+// The kind of one character of ASCII by itself.
+fn single(a: u8) -> u32
+    requires { ⌜ a < 0x80 ⌝ }
+    ensures { λ r. ⌜ r ≡ single a ⌝ }
+{
+    match a {
+        b'(' => SyntaxKind::OpeningRoundBracket,
+        b')' => SyntaxKind::ClosingRoundBracket,
+        b'[' => SyntaxKind::OpeningSquareBracket,
+        b']' => SyntaxKind::ClosingSquareBracket,
+        b'{' => SyntaxKind::OpeningCurlyBrace,
+        b'}' => SyntaxKind::ClosingCurlyBrace,
+        b',' => SyntaxKind::Comma,
+        b';' => SyntaxKind::Semicolon,
+        b'.' => SyntaxKind::Dot,
+        b'*' => SyntaxKind::Star,
+        b'+' => SyntaxKind::Plus,
+        b'-' => SyntaxKind::Minus,
+        b'/' => SyntaxKind::Slash,
+        b'%' => SyntaxKind::Percent,
+        b'?' => SyntaxKind::QuestionMark,
+        b':' => SyntaxKind::Colon,
+        b'^' => SyntaxKind::Caret,
+        b'=' => SyntaxKind::Equals,
+        b'!' => SyntaxKind::ErrorSingleExclamationMark,
+        b'<' => SyntaxKind::Less,
+        b'>' => SyntaxKind::Greater,
+        b'|' => SyntaxKind::ErrorSinglePipeMark,
+        b'@' => SyntaxKind::At,
+        _ => SyntaxKind::ErrorToken,
+    }
+}
+
+// The kind where the test holds, or 0.
+fn when(test: bool, kind: u32) -> u32
+    ensures { λ r. ⌜ r ≡ cond test kind 0 ⌝ }
+{
+    if test { kind } else { 0 }
+}
+
+// The kind of two characters together, or 0 where they are none.
+fn pair(a: u8, b: u8) -> u32
+    ensures { λ r. ⌜ r ≡ pair a b ⌝ }
+{
+    match a {
+        b'-' => when(b == b'>', SyntaxKind::Arrow),
+        b':' => when(b == b':', SyntaxKind::DoubleColon),
+        b'|' => when(b == b'|', SyntaxKind::Concatenation),
+        b'@' => when(b == b'@', SyntaxKind::DoubleAt),
+        b'!' => when(b == b'=', SyntaxKind::NotEquals),
+        b'=' => when((b == b'=') | (b == b'>'), SyntaxKind::Equals),
+        b'<' => {
+            if b == b'>' {
+                SyntaxKind::NotEquals
+            } else {
+                when(b == b'=', SyntaxKind::LessOrEquals)
+            }
+        }
+        b'>' => when(b == b'=', SyntaxKind::GreaterOrEquals),
+        b'\\' => when((b == b'G') | (b == b'g'), SyntaxKind::VerticalDelimiter),
+        _ => 0,
+    }
+}
+
+fn is_spaceship(a: u8, b: u8, c: u8) -> bool
+    ensures { λ r. ⌜ r ≡ spaceship a b c ⌝ }
+{
+    ((a == b'<') & (b == b'=')) & (c == b'>') | ((a == b'=') & (b == b'>')) & (c == b'<')
+}
+
+// The longest of the choices at a character of ASCII.
+fn read_operator(text: &[u8], start: usize) -> Lexed
+    requires { ⌜ (start < length (now text)) × (getD (now text) start 0 < 0x80) ⌝ }
+    ensures { λ r. ⌜ r ≡ endsAt start (operatorAt (chars (drop start (now (text .entry))))) ⌝ }
+{
+    let a = text[start];
+    let b = byte_at(text, start + 1);
+    let c = byte_at(text, start + 2);
+    if is_spaceship(a, b, c) {
+        return Lexed {
+            kind: SyntaxKind::Spaceship,
+            end: start + 3,
+        };
+    }
+    let k = pair(a, b);
+    if k != 0 {
+        return Lexed {
+            kind: k,
+            end: start + 2,
+        };
+    }
+    Lexed {
+        kind: single(a),
+        end: start + 1,
+    }
+}
+
+fn is_ascii_space(b: u8) -> bool
+    ensures { λ r. ⌜ r ≡ (ltb b 0x80 && whiteSpace b) ⌝ }
+{
+    (b == b' ') | (b'\t' <= b) & (b <= b'\r')
+}
+
+// The bytes of the White_Space character at `at`, or 0 where there is none.
+fn space_len(text: &[u8], at: usize) -> usize
+    ensures { λ r. ⌜ Step whiteSpace (now (text .entry)) at r ⌝ }
+{
+    let u = unit_at(text, at);
+    if classes::is_white_space(unit_code(u)) {
+        unit_len(u)
+    } else {
+        0
+    }
+}
+
+fn read_whitespace(text: &[u8], at: usize) -> usize
+    ensures { λ r. ⌜ r ≡ at + run whiteSpace (chars (drop at (now (text .entry)))) ⌝ }
+{
+    let mut j = at;
+    while j < text.len() {
+        let b = text[j];
+        if is_ascii_space(b) {
+            j += 1;
+            continue;
+        }
+        if b < 0x80 {
+            return j;
+        }
+        let n = space_len(text, j);
+        if n == 0 {
+            return j;
+        }
+        j += n;
+    }
+    j
+}
+
+// No byte of a longer character is a line feed, so bytes do.
+fn read_single_line_comment(text: &[u8], at: usize) -> usize
+    ensures { λ r. ⌜ r ≡ at + run notLineFeed (chars (drop at (now (text .entry)))) ⌝ }
+{
+    let mut j = at;
+    while j < text.len() {
+        if text[j] == b'\n' {
+            return j;
+        }
+        j += 1;
+    }
+    j
+}
+
+// The two bytes at `at` are `a` and `b`. A byte past the end reads as 0, which `b` is not.
+fn two_at(text: &[u8], at: usize, a: u8, b: u8) -> bool
+    requires { ⌜ (at < length (now text)) × (0 < b) ⌝ }
+    ensures { λ r. ⌜ r ≡ two (getD (now (text .entry)) at 0) (getD (now (text .entry)) (at + 1) 0) a b ⌝ }
+{
+    if text[at] != a {
+        return false;
+    }
+    if text.len() - at == 1 {
+        return false;
+    }
+    text[at + 1] == b
+}
+
+// `deeper` comments are open inside the outermost one. Only ASCII counts here, so bytes do.
+fn read_multi_line_comment(text: &[u8], at: usize) -> Lexed
+    ensures { λ r. ⌜ r ≡ endsAt at (enclosed 0 (commentBody 0 false (chars (drop at (now (text .entry))))) Comment ErrorMultilineCommentIsNotClosed) ⌝ }
+{
+    let mut j = at;
+    let mut deeper: usize = 0;
+    while j < text.len() {
+        if two_at(text, j, b'*', b'/') {
+            if deeper == 0 {
+                return Lexed {
+                    kind: SyntaxKind::Comment,
+                    end: j + 2,
+                };
+            }
+            deeper -= 1;
+            j += 2;
+            continue;
+        }
+        if two_at(text, j, b'/', b'*') {
+            deeper += 1;
+            j += 2;
+            continue;
+        }
+        j += 1;
+    }
+    Lexed {
+        kind: SyntaxKind::ErrorMultilineCommentIsNotClosed,
+        end: j,
+    }
+}
+
+// How a number opens: whether its digits are hex, and how many bytes stand before the first run.
+pub struct Opened {
+    pub hex: bool,
+    pub size: usize,
+}
+
+// `0x` before a hex digit, `0b` before 0 or 1, or the digit that starts the token, which belongs to no run.
+fn read_opening(text: &[u8], start: usize) -> Opened
+    requires { ⌜ (start < length (now text)) × (getD (now text) start 0 < 0x80) ⌝ }
+    ensures { λ r. ⌜ r ≡ opened (opening (chars (drop start (now (text .entry))))) ⌝ }
+{
+    let zero = text[start] == b'0';
+    let b = byte_at(text, start + 1);
+    let c = byte_at(text, start + 2);
+    if zero & ((b == b'x') | (b == b'X')) & is_hex_digit(c) {
+        return Opened { hex: true, size: 2 };
+    }
+    if zero & ((b == b'b') | (b == b'B')) & ((c == b'0') | (c == b'1')) {
+        return Opened {
+            hex: false,
+            size: 2,
+        };
+    }
+    Opened {
+        hex: false,
+        size: 1,
+    }
+}
+
+// A `.` with the digits after it, if there are any.
+fn read_fraction(text: &[u8], at: usize, hex: bool) -> usize
+    ensures { λ r. ⌜ r ≡ at + fraction (radixDigit hex) 0 (chars (drop at (now (text .entry)))) ⌝ }
+{
+    if at < text.len() {
+        if text[at] == b'.' {
+            return read_radix_digits(text, at + 1, hex);
+        }
+    }
+    at
+}
+
+// Where a part of a number ends, and whether it ended well.
+pub struct Part {
+    pub well: bool,
+    pub end: usize,
+}
+
+fn marks(hex: bool, b: u8) -> bool
+    ensures { λ r. ⌜ r ≡ marks hex b ⌝ }
+{
+    if hex {
+        (b == b'p') | (b == b'P')
+    } else {
+        (b == b'e') | (b == b'E')
+    }
+}
+
+// The bytes of a sign: 1 or 0.
+fn signs(b: u8) -> usize
+    ensures { λ r. ⌜ r ≡ signs b ⌝ }
+{
+    if (b == b'+') | (b == b'-') { 1 } else { 0 }
+}
+
+// The exponent, if its letter comes next.
+fn read_exponent(text: &[u8], at: usize, hex: bool) -> Part
+    ensures { λ r. ⌜ r ≡ partAt at (exponent hex (chars (drop at (now (text .entry))))) ⌝ }
+{
+    if !marks(hex, byte_at(text, at)) {
+        return Part {
+            well: true,
+            end: at,
+        };
+    }
+    let j = at + (1 + signs(byte_at(text, at + 1)));
+    if !is_digit(byte_at(text, j)) {
+        return Part {
+            well: false,
+            end: j,
+        };
+    }
+    Part {
+        well: true,
+        end: read_digits(text, j),
+    }
+}
+
+fn is_digit(b: u8) -> bool
+    ensures { λ r. ⌜ r ≡ digit b ⌝ }
+{
+    (b'0' <= b) & (b <= b'9')
+}
+
+fn is_hex_digit(b: u8) -> bool
+    ensures { λ r. ⌜ r ≡ hexDigit b ⌝ }
+{
+    is_digit(b) | (b'A' <= b) & (b <= b'F') | (b'a' <= b) & (b <= b'f')
+}
+
+fn is_radix_digit(hex: bool, b: u8) -> bool
+    ensures { λ r. ⌜ r ≡ radixDigit hex b ⌝ }
+{
+    if hex { is_hex_digit(b) } else { is_digit(b) }
+}
+
+// The byte at j is a `_` that joins two digits.
+fn joins(text: &[u8], j: usize, hex: bool, after: bool) -> bool
+    requires { ⌜ j < length (now text) ⌝ }
+    ensures { λ r. ⌜ r ≡ (eqb (getD (now (text .entry)) j 0) underscore && after && radixDigit hex (getD (now (text .entry)) (j + 1) 0)) ⌝ }
+{
+    (text[j] == b'_') & after & is_radix_digit(hex, byte_at(text, j + 1))
+}
+
+// The digits of either radix. `after`: the byte before is a digit of this run.
+fn read_radix_digits(text: &[u8], at: usize, hex: bool) -> usize
+    ensures { λ r. ⌜ r ≡ at + digits (radixDigit hex) false (chars (drop at (now (text .entry)))) ⌝ }
+{
+    let mut j = at;
+    let mut after = false;
+    while j < text.len() {
+        let digit = is_radix_digit(hex, text[j]);
+        if !digit {
+            if !joins(text, j, hex, after) {
+                return j;
+            }
+        }
+        after = digit;
+        j += 1;
+    }
+    j
+}
+
+fn read_hex_digits(text: &[u8], at: usize) -> usize
+    ensures { λ r. ⌜ r ≡ at + digits hexDigit false (chars (drop at (now (text .entry)))) ⌝ }
+{
+    read_radix_digits(text, at, true)
+}
+
+fn read_digits(text: &[u8], at: usize) -> usize
+    ensures { λ r. ⌜ r ≡ at + digits digit false (chars (drop at (now (text .entry)))) ⌝ }
+{
+    read_radix_digits(text, at, false)
+}
+
+// A string or an identifier, from after its opening quote, byte by byte: no byte of ASCII lies inside a character. Of a character that is
+// taken, the bytes after the first pass as any others do.
+fn read_string(text: &[u8], at: usize, quote: u8, success_type: u32, error_type: u32) -> Lexed
+    requires { ⌜ (0 < quote) × (quote < 0x80) × (quote ≡ backslash → ⊥) ⌝ }
+    ensures { λ r. ⌜ r ≡ endsAt at (enclosed 0 (quotedBody quote false (chars (drop at (now (text .entry))))) «success_type» «error_type») ⌝ }
+{
+    let mut i = at;
+    while i < text.len() {
+        let b = text[i];
+        if b == b'\\' {
+            if i + 1 == text.len() {
+                return Lexed {
+                    kind: error_type,
+                    end: i + 1,
+                };
+            }
+            i += 2;
+            continue;
+        }
+        if b == quote {
+            if byte_at(text, i + 1) != quote {
+                return Lexed {
+                    kind: success_type,
+                    end: i + 1,
+                };
+            }
+            i += 2;
+            continue;
+        }
+        i += 1;
+    }
+    Lexed {
+        kind: error_type,
+        end: i,
+    }
+}
+
+// Whether the character at i is the closing quote E2 80 last.
+fn closes(text: &[u8], i: usize, last: u8) -> bool
+    requires { ⌜ (i < length (now text)) × (0x80 ≤ last) × (last ≤ 0xBF) ⌝ }
+    ensures { λ r. ⌜ r ≡ eqb (charAt (drop i (now (text .entry))) .code) (curlyClose last) ⌝ }
+{
+    if text[i] != 0xE2 {
+        return false;
+    }
+    // `i + 2 < text.len()` could wrap.
+    if text.len() - i < 3 {
+        return false;
+    }
+    (text[i + 1] == 0x80) & (text[i + 2] == last)
+}
+
+// A string or an identifier in Unicode quotes, from after the opening one.
+fn read_unicode_quoted(
+    text: &[u8],
+    at: usize,
+    last: u8,
+    success_type: u32,
+    error_type: u32,
+) -> Lexed
+    requires { ⌜ (0x80 ≤ last) × (last ≤ 0xBF) ⌝ }
+    ensures { λ r. ⌜ r ≡ endsAt at (enclosed 0 (upTo (curlyClose last) (chars (drop at (now (text .entry))))) «success_type» «error_type») ⌝ }
+{
+    let mut i = at;
+    while i < text.len() {
+        if closes(text, i, last) {
+            return Lexed {
+                kind: success_type,
+                end: i + 3,
+            };
+        }
+        i += 1;
+    }
+    Lexed {
+        kind: error_type,
+        end: i,
+    }
+}
+
+fn is_tag_byte(b: u8) -> bool
+    ensures { λ r. ⌜ r ≡ tagByte b ⌝ }
+{
+    ((((b'A' <= b) & (b <= b'Z')) | ((b'a' <= b) & (b <= b'z'))) | ((b'0' <= b) & (b <= b'9')))
+        | (b == b'_')
+}
+
+// Where the tag bytes from `at` on end.
+fn tag_end(text: &[u8], at: usize) -> usize
+    requires { ⌜ at ≤ length (now text) ⌝ }
+    ensures { λ r. ⌜ TagEnd (now (text .entry)) at r ⌝ }
+{
+    let mut i = at;
+    while i < text.len() {
+        if !is_tag_byte(text[i]) {
+            return i;
+        }
+        i += 1;
+    }
+    i
+}
+
+// Whether the delimiter stands at `at`.
+fn matches(text: &[u8], at: usize, delimiter: &[u8]) -> bool
+    requires { ⌜ Ascii (now delimiter) ⌝ }
+    ensures { λ r. ⌜ r ≡ begins (now (delimiter .entry)) (chars (drop at (now (text .entry)))) ⌝ }
+{
+    let mut i = at;
+    let mut k = 0;
+    while k < delimiter.len() {
+        if byte_at(text, i) != delimiter[k] {
+            return false;
+        }
+        i += 1;
+        k += 1;
+    }
+    true
+}
+
+// Where the first delimiter from `at` on ends, or 0.
+fn find_delimiter(text: &[u8], at: usize, delimiter: &[u8]) -> usize
+    requires { ⌜ Delimiter (now delimiter) ⌝ }
+    ensures { λ r. ⌜ r ≡ foundEnd at (length (now (delimiter .entry))) (find (now (delimiter .entry)) (chars (drop at (now (text .entry))))) ⌝ }
+{
+    let mut i = at;
+    while i < text.len() {
+        if text[i] == b'$' {
+            if matches(text, i, delimiter) {
+                return i + delimiter.len();
+            }
+        }
+        i += 1;
+    }
+    0
+}
+
+// A here-document, or the `$` at `start` alone.
+fn read_dollar(text: &[u8], start: usize) -> Lexed
+    requires { ⌜ (start < length (now text)) × (getD (now text) start 0 ≡ dollar) ⌝ }
+    ensures { λ r. ⌜ r ≡ endsAt start (dollarLexeme (hereDoc (chars (drop (start + 1) (now (text .entry)))))) ⌝ }
+{
+    let lone = Lexed {
+        kind: SyntaxKind::DollarSign,
+        end: start + 1,
+    };
+    let tag = tag_end(text, start + 1);
+    if byte_at(text, tag) != b'$' {
+        return lone;
+    }
+    // The closing delimiter is sought after the opening one, which it may not overlap.
+    let body = tag + 1;
+    let end = find_delimiter(text, body, &text[start..body]);
+    if end == 0 {
+        return lone;
+    }
+    Lexed {
+        kind: SyntaxKind::HereDoc,
+        end: end,
+    }
+}
+
+// The bits of a word's bytes: those below 64 by their number, and those from 64 on by their number less 64.
+fn word_mask(b: u8, dollar: bool) -> u64
+    ensures { λ r. ⌜ r ≡ wordMask dollar b ⌝ }
+{
+    if b >= 64 {
+        return 0x07FF_FFFE_87FF_FFFE;
+    }
+    if dollar {
+        return 0x03FF_0010_0000_0000;
+    }
+    0x03FF_0000_0000_0000
+}
+
+// One bit of a mask is a third faster than comparisons on words of mixed case.
+fn is_word_byte(b: u8, dollar: bool) -> bool
+    ensures { λ r. ⌜ r ≡ (ltb b 0x80 && wordWith dollar b) ⌝ }
+{
+    let mask = word_mask(b, dollar);
+    (b < 0x80) & ((mask >> (b % 64)) % 2 == 1)
+}
+
+fn is_word_in(al: &AlphabeticTable, nu: &NumericTable, c: u32, dollar: bool) -> bool
+    requires { ⌜ (now al ≡ alphabeticTable) × (now nu ≡ numericTable) ⌝ }
+    ensures { λ r. ⌜ r ≡ wordWith dollar c ⌝ }
+{
+    if c < 0x80 {
+        return is_word_byte(c as u8, dollar);
+    }
+    classes::is_alphanumeric_in(al, nu, c)
+}
+
+// The bytes of the word character at `at`, or 0 where there is none.
+fn word_len(al: &AlphabeticTable, nu: &NumericTable, text: &[u8], at: usize, dollar: bool) -> usize
+    requires { ⌜ (now al ≡ alphabeticTable) × (now nu ≡ numericTable) ⌝ }
+    ensures { λ r. ⌜ Step (wordWith dollar) (now (text .entry)) at r ⌝ }
+{
+    let u = unit_at(text, at);
+    if is_word_in(al, nu, unit_code(u), dollar) {
+        unit_len(u)
+    } else {
+        0
+    }
+}
+
+// Where it says so, `c` is a Latin letter past ASCII, up to U+02C1: told by comparisons, so that a word with a few of them makes no table.
+fn is_latin(c: u32) -> bool
+    ensures { λ r. ⌜ (r ≡ true → (d : Bool) → wordWith d c ≡ true) ⌝ }
+{
+    (0xC0 <= c) & (c < 0xD7) | (0xD8 <= c) & (c < 0xF7) | (0xF8 <= c) & (c < 0x2C2)
+}
+
+// The bytes of such a letter at `at`, or 0 where there is none.
+fn latin_len(text: &[u8], at: usize) -> usize
+    ensures { λ r. ⌜ ((r ≡ 0 → ⊥) → (d : Bool) → Step (wordWith d) (now (text .entry)) at r) ⌝ }
+{
+    let u = unit_at(text, at);
+    if is_latin(unit_code(u)) {
+        unit_len(u)
+    } else {
+        0
+    }
+}
+
+// A word from its first character on that needs a table. The tables are made once, for all that is left.
+fn read_wide_word(text: &[u8], at: usize, dollar: bool) -> usize
+    ensures { λ r. ⌜ r ≡ at + run (wordWith dollar) (chars (drop at (now (text .entry)))) ⌝ }
+{
+    let al = classes::alphabetic_table();
+    let nu = classes::numeric_table();
+    let mut j = at;
+    loop {
+        let n = word_len(&al, &nu, text, j, dollar);
+        if n == 0 {
+            return j;
+        }
+        j += n;
+    }
+}
+
+// The characters that a word goes on over; `dollar`: with `$`, as a word that starts with a number has it.
+fn read_word(text: &[u8], at: usize, dollar: bool) -> usize
+    ensures { λ r. ⌜ r ≡ at + run (wordWith dollar) (chars (drop at (now (text .entry)))) ⌝ }
+{
+    let mut j = at;
+    while j < text.len() {
+        let b = text[j];
+        if is_word_byte(b, dollar) {
+            j += 1;
+            continue;
+        }
+        if b < 0x80 {
+            return j;
+        }
+        let n = latin_len(text, j);
+        if n == 0 {
+            return read_wide_word(text, j, dollar);
+        }
+        j += n;
+    }
+    j
+}
+
+fn read_bare_word(text: &[u8], at: usize) -> usize
+    ensures { λ r. ⌜ r ≡ at + run wordCharacter (chars (drop at (now (text .entry)))) ⌝ }
+{
+    read_word(text, at, false)
+}
