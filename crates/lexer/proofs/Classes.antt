@@ -7,7 +7,7 @@ use mathlib.Core.List.{List, _∷_}
 use mathlib.Core.Bool.{Bool, true, false, _&&_, _||_, or-false, and-false, or-assoc}
 use lib.ListN.{drop}
 use lib.Dec.{leb, ltb, eqb}
-use borrow.Author.Tests.{ne-eqb, lt-leb, ltb-true, ltb-false}
+use borrow.Author.Tests.{ne-eqb, lt-leb, ltb-true, ltb-false, lt-ltb}
 use Rattle.rules.specs.Utf8.{within, noCode}
 use Rattle.rules.specs.Characters.{underscore, dollar}
 use Rattle.rules.specs.Tables.{alphabeticTable, numericTable}
@@ -75,3 +75,7 @@ word-bit d b m e = ap (λ (m : ℕ). ltb b 0x80 && bit m b) e ∙ go (ltb b 0x80
     go : (t : Bool) → ltb b 0x80 ≡ t → (t && bit (wordMask d b) b) ≡ (t && wordWith d b)
     go true h = ascii-bit d b (ltb-true b 0x80 h)
     go false h = refl
+
+-- a test that only ASCII passes, of a byte of ASCII
+pub below : (p : ℕ → Bool) (a : ℕ) → a < 0x80 → {r : Bool} → r ≡ (ltb a 0x80 && p a) → p a ≡ r
+below p a l e = sym (e ∙ ap (λ (b : Bool). b && p a) (lt-ltb a 0x80 l))

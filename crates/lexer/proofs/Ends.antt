@@ -1,8 +1,9 @@
 -- What a reader answers, from what is known of the lexeme or of the part. Assumes nothing.
 use Prim.Native.Nat.{ℕ, _+_}
 use mathlib.Core.Path.{_≡_, sym, ap, ap₂, _∙_}
-use mathlib.Core.Bool.{Bool}
-use Rattle.rules.specs.Lexeme.{Lexeme, is}
+use native.Mathlib.Omega.{arith}
+use mathlib.Core.Bool.{Bool, cond}
+use Rattle.rules.specs.Lexeme.{Lexeme, is, Body, enclosed}
 use Rattle.rules.specs.Numbers.{Figures}
 use Rattle.lexer.specs.declared.tokenizer.Lexed.{Lexed}
 use Rattle.lexer.specs.declared.tokenizer.Part.{Part}
@@ -13,3 +14,7 @@ part-is at {f} {well} {n} e end p = ap {B = Part} (λ (m : ℕ). record { well =
 
 pub lexed-is : (at : ℕ) {l : Lexeme} {kind n : ℕ} → l ≡ is kind n → (end : ℕ) → end ≡ at + n → record { kind = kind; end = end } ≡ endsAt at l
 lexed-is at {l} {kind} {n} e end p = ap {B = Lexed} (λ (m : ℕ). record { kind = kind; end = m }) p ∙ sym (ap (endsAt at) e)
+
+-- an opening of n bytes before a body
+pub opened-by : (at n : ℕ) (b : Body) (kind error : ℕ) → endsAt (at + n) (enclosed 0 b kind error) ≡ endsAt at (enclosed n b kind error)
+opened-by at n b kind error = ap {B = Lexed} (λ (m : ℕ). record { kind = cond (b .closed) kind error; end = m }) (omega arith)

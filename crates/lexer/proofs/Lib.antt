@@ -5,3 +5,4 @@ pub mod Comments
 pub mod Bodies
 pub mod HereDocs
 pub mod Matches
+pub mod Numbers

@@ -1,5 +1,6 @@
 -- What the readers answer, in the code's own structs.
-use Prim.Native.Nat.{ℕ, _+_}
+use Prim.Native.Nat.{ℕ, _+_, _≤_, _<_}
+use lib.ListN.{length, getD}
 use mathlib.Core.List.{List, [], _∷_}
 use Rattle.rules.specs.Utf8.{Char}
 use Rattle.rules.specs.Kinds.{EndOfStream}
@@ -26,3 +27,9 @@ partAt at f = record { well = f .well; end = at + f .size }
 abbrev pub operatorAt : List Char → Lexeme
 operatorAt [] = is EndOfStream 0
 operatorAt (c ∷ cs) = operator c cs
+
+-- The bytes from i to j are there, and are ASCII.
+pub record AsciiTo (s : List ℕ) (i j : ℕ) : Type 0 where
+  pub from : i ≤ j
+  pub upto : j ≤ length s
+  pub ascii : (k : ℕ) → i ≤ k → k < j → getD s k 0 < 0x80

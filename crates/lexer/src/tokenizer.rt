@@ -8,22 +8,23 @@ use utf8::unit_code;
 use utf8::unit_len;
 ghost use mathlib.Core.Path.{_≡_};
 ghost use mathlib.Core.Bool.{Bool, true, false, cond, _&&_, _||_};
-ghost use Prim.Native.Nat.{ℕ, _+_, _≤_, _<_};
-ghost use lib.ListN.{length, getD, drop};
+ghost use Prim.Native.Nat.{ℕ, _+_, _-_, _≤_, _<_};
+ghost use lib.ListN.{length, getD, take, drop};
 ghost use lib.Dec.{ltb, eqb};
 ghost use Rattle.rules.specs.Utf8.{charAt, chars};
 ghost use Rattle.rules.specs.Tables.{alphabeticTable, numericTable};
 ghost use Rattle.rules.specs.Classes.{whiteSpace, digit, hexDigit};
 ghost use Rattle.rules.specs.Characters.{dollar, underscore, backslash};
 ghost use Rattle.rules.specs.Kinds.{Comment, ErrorMultilineCommentIsNotClosed};
-ghost use Rattle.rules.specs.Lexeme.{two, run, enclosed};
+ghost use Rattle.rules.specs.Lexeme.{first, two, run, enclosed};
 ghost use Rattle.rules.specs.Spaces.{notLineFeed, commentBody};
 ghost use Rattle.rules.specs.Operators.{single, pair, spaceship};
 ghost use Rattle.rules.specs.Words.{wordCharacter};
 ghost use Rattle.rules.specs.Quotes.{quotedBody, upTo};
 ghost use Rattle.rules.specs.Dollars.{tagByte, begins, find, hereDoc, dollarLexeme};
-ghost use Rattle.rules.specs.Numbers.{digits, radixDigit, opening, fraction, marks, signs, exponent};
-ghost use Rattle.lexer.specs.Ends.{endsAt, opened, partAt, operatorAt};
+ghost use Rattle.rules.specs.Numbers.{digits, radixDigit, opening, fraction, marks, signs, exponent, numberWord, goesOn, allChars, closing, number};
+ghost use Rattle.rules.specs.Tokens.{lexeme, afterDotAt};
+ghost use Rattle.lexer.specs.Ends.{endsAt, opened, partAt, operatorAt, AsciiTo};
 ghost use Rattle.lexer.specs.Steps.{Step};
 ghost use Rattle.lexer.specs.Words.{wordWith, wordMask};
 ghost use Rattle.lexer.specs.Quotes.{curlyClose};
@@ -33,6 +34,124 @@ ghost use Rattle.lexer.specs.HereDocs.{Ascii, Delimiter, TagEnd, foundEn
 pub struct Lexed {
     pub kind: u32,
     pub end: usize,
+}
+
+// The token at `start`. Words and white space are tried first, since most tokens are these.
+pub fn next_token(text: &[u8], start: usize) -> Lexed
+    ensures { λ r. ⌜ r ≡ endsAt start (lexeme (afterDotAt (now (text .entry)) start) (drop start (now (text .entry)))) ⌝ }
+{
+    if start >= text.len() {
+        return Lexed {
+            kind: SyntaxKind::EndOfStream,
+            end: start,
+        };
+    }
+    let a = text[start];
+    if a >= 0x80 {
+        return read_wide(text, start);
+    }
+    if is_ascii_space(a) {
+        return Lexed {
+            kind: SyntaxKind::Whitespace,
+            end: read_whitespace(text, start),
+        };
+    }
+    if !is_word_byte(a, false) {
+        return read_mark(text, start);
+    }
+    if is_digit(a) {
+        return read_number(text, start);
+    }
+    Lexed {
+        kind: SyntaxKind::BareWord,
+        end: read_bare_word(text, start),
+    }
+}
+
+// A token that starts with a character past ASCII, or with a byte that begins none.
+fn read_wide(text: &[u8], start: usize) -> Lexed
+    requires { ⌜ (start < length (now text)) × (0x80 ≤ getD (now text) start 0) ⌝ }
+    ensures { λ r. ⌜ r ≡ endsAt start (lexeme (afterDotAt (now (text .entry)) start) (drop start (now (text .entry)))) ⌝ }
+{
+    let u = unit_at(text, start);
+    let c = unit_code(u);
+    let after = start + unit_len(u);
+    if classes::is_white_space(c) {
+        return Lexed {
+            kind: SyntaxKind::Whitespace,
+            end: read_whitespace(text, start),
+        };
+    }
+    if c == 0x2018 {
+        return read_unicode_quoted(
+            text,
+            after,
+            0x99,
+            SyntaxKind::StringToken,
+            SyntaxKind::ErrorSingleQuoteIsNotClosed,
+        );
+    }
+    if c == 0x201C {
+        return read_unicode_quoted(
+            text,
+            after,
+            0x9D,
+            SyntaxKind::QuotedIdentifier,
+            SyntaxKind::ErrorDoubleQuoteIsNotClosed,
+        );
+    }
+    if c == 0x2212 {
+        return Lexed {
+            kind: SyntaxKind::Minus,
+            end: after,
+        };
+    }
+    Lexed {
+        kind: SyntaxKind::ErrorToken,
+        end: after,
+    }
+}
+
+// A token that starts with a character of ASCII that is neither white space nor a word's.
+fn read_mark(text: &[u8], start: usize) -> Lexed
+    requires { ⌜ (start < length (now text)) × (getD (now text) start 0 < 0x80) × (whiteSpace (getD (now text) start 0) ≡ false) × (wordCharacter (getD (now text) start 0) ≡ false) ⌝ }
+    ensures { λ r. ⌜ r ≡ endsAt start (lexeme (afterDotAt (now (text .entry)) start) (drop start (now (text .entry)))) ⌝ }
+{
+    if two_at(text, start, b'-', b'-') {
+        return Lexed {
+            kind: SyntaxKind::Comment,
+            end: read_single_line_comment(text, start),
+        };
+    }
+    if two_at(text, start, b'/', b'*') {
+        return read_multi_line_comment(text, start + 2);
+    }
+    let a = text[start];
+    match a {
+        b'\'' => read_string(
+            text,
+            start + 1,
+            b'\'',
+            SyntaxKind::StringToken,
+            SyntaxKind::ErrorSingleQuoteIsNotClosed,
+        ),
+        b'"' => read_string(
+            text,
+            start + 1,
+            b'"',
+            SyntaxKind::QuotedIdentifier,
+            SyntaxKind::ErrorDoubleQuoteIsNotClosed,
+        ),
+        b'`' => read_string(
+            text,
+            start + 1,
+            b'`',
+            SyntaxKind::QuotedIdentifier,
+            SyntaxKind::ErrorBackQuoteIsNotClosed,
+        ),
+        b'$' => read_dollar(text, start),
+        _ => read_operator(text, start),
+    }
 }
 
 // The kind of one character of ASCII by itself.
@@ -318,6 +437,37 @@ fn read_exponent(text: &[u8], at: usize, hex: bool) -> Part
     }
 }
 
+// The byte before `start` is a dot: the number is then a place in a tuple, as in `x.1.1`.
+fn after_dot(text: &[u8], start: usize) -> bool
+    requires { ⌜ start < length (now text) ⌝ }
+    ensures { λ r. ⌜ r ≡ afterDotAt (now (text .entry)) start ⌝ }
+{
+    if start == 0 {
+        return false;
+    }
+    text[start - 1] == b'.'
+}
+
+fn read_number(text: &[u8], start: usize) -> Lexed
+    requires { ⌜ (start < length (now text)) × (digit (getD (now text) start 0) ≡ true) ⌝ }
+    ensures { λ r. ⌜ r ≡ endsAt start (number (afterDotAt (now (text .entry)) start) (chars (drop start (now (text .entry))))) ⌝ }
+{
+    if after_dot(text, start) {
+        return read_identifier_starting_with_number(text, start, read_digits(text, start + 1));
+    }
+    let o = read_opening(text, start);
+    let hex = o.hex;
+    let whole = read_radix_digits(text, start + o.size, hex);
+    let e = read_exponent(text, read_fraction(text, whole, hex), hex);
+    if !e.well {
+        return Lexed {
+            kind: SyntaxKind::ErrorWrongNumber,
+            end: e.end,
+        };
+    }
+    read_identifier_starting_with_number(text, start, e.end)
+}
+
 fn is_digit(b: u8) -> bool
     ensures { λ r. ⌜ r ≡ digit b ⌝ }
 {
@@ -373,6 +523,53 @@ fn read_digits(text: &[u8], at: usize) -> usize
     ensures { λ r. ⌜ r ≡ at + digits digit false (chars (drop at (now (text .entry)))) ⌝ }
 {
     read_radix_digits(text, at, false)
+}
+
+// The character at `at` makes a word of the number before it.
+fn goes_on(text: &[u8], at: usize) -> bool
+    ensures { λ r. ⌜ r ≡ goesOn (first (chars (drop at (now (text .entry))))) ⌝ }
+{
+    let c = unit_code(unit_at(text, at));
+    classes::is_alphabetic(c) | (c == 0x5F)
+}
+
+// The bytes from `start` to `end`, which are ASCII, are all a word's.
+fn is_word(text: &[u8], start: usize, end: usize) -> bool
+    requires { ⌜ AsciiTo (now text) start end ⌝ }
+    ensures { λ r. ⌜ r ≡ allChars numberWord (take (end - start) (chars (drop start (now (text .entry))))) ⌝ }
+{
+    let mut j = start;
+    while j < end {
+        if !is_word_byte(text[j], true) {
+            return false;
+        }
+        j += 1;
+    }
+    true
+}
+
+// The number from `start` to `at`, or the word that it is the start of.
+fn read_identifier_starting_with_number(text: &[u8], start: usize, at: usize) -> Lexed
+    requires { ⌜ AsciiTo (now text) start at ⌝ }
+    ensures { λ r. ⌜ r ≡ endsAt start (closing (at - start) (chars (drop start (now (text .entry))))) ⌝ }
+{
+    if !goes_on(text, at) {
+        return Lexed {
+            kind: SyntaxKind::Number,
+            end: at,
+        };
+    }
+    let end = read_word(text, at, true);
+    if is_word(text, start, at) {
+        return Lexed {
+            kind: SyntaxKind::BareWord,
+            end,
+        };
+    }
+    Lexed {
+        kind: SyntaxKind::ErrorWrongNumber,
+        end,
+    }
 }
 
 // A string or an identifier, from after its opening quote, byte by byte: no byte of ASCII lies inside a character. Of a character that is

@@ -24,7 +24,8 @@ pub mod Quotes
 pub mod Dollars
 pub mod NumberParts
 pub mod Numbers
--- The rules byte by byte, as code reads them: 2, 4, 5, 6 and 7.
+-- The rules byte by byte, as code reads them: which one, then 2, 4, 5, 6 and 7.
+pub mod RuleBytes
 pub mod OperatorBytes
 pub mod Bodies
 pub mod HereDocs

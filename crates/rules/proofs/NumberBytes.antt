@@ -3,7 +3,7 @@
 use Prim.Native.Nat.{ℕ, zero, suc, _+_, _-_, _≤_, _<_}
 use native.Mathlib.Decide.{decLt}
 use native.Mathlib.Nat.{add-zero}
-use native.Mathlib.Numerals.{add-one}
+use native.Mathlib.Numerals.{add-one, sub-one}
 use native.Mathlib.Omega.{arith}
 use borrow.Author.Tests.{ne-eqb}
 use mathlib.Core.Path.{_≡_, refl, sym, ap, ap₂, _∙_, subst}
@@ -16,11 +16,12 @@ use Rattle.rules.specs.Utf8.{Char, width, noCode, charAt, chars}
 use Rattle.rules.specs.Classes.{digit, hexDigit}
 use Rattle.rules.specs.Characters.{plus, dash, dot, zeroDigit, oneDigit, capitalB, capitalE, capitalP, capitalX, underscore, smallB, smallE, smallP, smallX}
 use Rattle.rules.specs.Lexeme.{first}
-use Rattle.rules.specs.Numbers.{digits, either, Opening, prefix, opening, radixDigit, fraction, Figures, marks, signs, power, exponent, allChars}
+use Rattle.rules.specs.Numbers.{digits, either, Opening, prefix, opening, radixDigit, fraction, mantissa, Figures, marks, signs, power, exponent, figures, allChars}
+use Rattle.rules.specs.Tokens.{afterDotAt}
 use Rattle.rules.proofs.Decoding.{chars-at, chars-ascii, chars-end, code-high}
 use Rattle.rules.proofs.Bytes.{next-like, next-is, code-like}
 use Rattle.rules.proofs.NumberParts.{joins, choose, digits-digit, digits-join, digits-stop, fraction-dot, fraction-none, power-well, power-wrong, exponent-none, exponent-some}
-use Rattle.rules.proofs.Numbers.{Lead, lead-one, radix-small, either-small}
+use Rattle.rules.proofs.Numbers.{Lead, lead-one, lead-add, lead-digits, lead-opening, lead-mantissa, lead-figures, radix-small, either-small}
 use Rattle.rules.proofs.Tests.{clash, eqb-true, and-left, cond-ind}
 
 -- a character of ASCII is its byte
@@ -285,7 +286,76 @@ ascii-rest s (suc n) i h a =
     ap (drop (suc n)) (chars-ascii s i (omega arith) (a i (omega arith) (omega arith)))
     ∙ ascii-rest s n (i + 1) (omega arith) (λ k p q. a k (omega arith) (omega arith)) ∙ ap (λ (m : ℕ). chars (drop m s)) e
 
--- one more byte of ASCII in a part that all passes a test
-pub all-byte : (p : ℕ → Bool) (s : List ℕ) (i n : ℕ) → i < length s → getD s i 0 < 0x80 → allChars p (take (suc n) (chars (drop i s))) ≡ (p (getD s i 0) && allChars p (take n (chars (drop (i + 1) s))))
-unfolding allChars
-all-byte p s i n h l = ap (λ (cs : List Char). allChars p (take (suc n) cs)) (chars-ascii s i h l)
+-- whether the bytes from i to e all pass a test: one byte more, or none
+module _ (p : ℕ → Bool) (s : List ℕ) (i e : ℕ) where
+  pub all-end : e ≤ i → allChars p (take (e - i) (chars (drop i s))) ≡ true
+  unfolding allChars
+  all-end h = let z : e - i ≡ 0 = omega arith in rw z
+
+  pub all-byte : i < e → e ≤ length s → getD s i 0 < 0x80 → allChars p (take (e - i) (chars (drop i s))) ≡ (p (getD s i 0) && allChars p (take (e - (i + 1)) (chars (drop (i + 1) s))))
+  unfolding allChars
+  all-byte h u l =
+      let z : e - i ≡ suc (e - (i + 1)) = omega arith in
+      rw z (ap (λ (cs : List Char). allChars p (take (suc (e - (i + 1))) cs)) (chars-ascii s i (omega arith) l))
+
+-- the byte before a cursor that is not 0
+pub dot-before : (s : List ℕ) (i : ℕ) → (i ≡ 0 → ⊥) → eqb (getD s (i - 1) 0) dot ≡ afterDotAt s i
+dot-before s zero n = absurd (n refl)
+dot-before s (suc i) n = rw sub-one
+
+-- Rule 6 by its parts: from the digit at i on, w bytes to the end of the whole part and m to the end of the fraction.
+module _ (s : List ℕ) (i : ℕ) (h : i < length s) (e : digit (getD s i 0) ≡ true) where
+  abbrev cs : List Char
+  cs = chars (drop i s)
+
+  -- a digit is ASCII
+  pub digit-ascii : getD s i 0 < 0x80
+  digit-ascii = ascii-test digit digit-high refl s i e .1
+
+  starts : digit (first cs) ≡ true
+  starts = next-like digit digit-high refl s i ∙ e
+
+  pub figures-lead : (d : Bool) → LeadAt s i (figures d cs .size)
+  figures-lead d = lead-at s (figures d cs .size) i (omega arith) (lead-figures d cs starts)
+
+  pub figures-dot : figures true cs ≡ record { well = true; size = 1 + digits digit false (chars (drop (i + 1) s)) }
+  unfolding figures
+  figures-dot = ap {B = Figures} (λ (l : List Char). record { well = true; size = suc (digits digit false (drop 1 l)) }) (chars-ascii s i h digit-ascii) ∙ ap {B = Figures} (λ (n : ℕ). record { well = true; size = n }) (omega arith)
+
+  module _ (w m : ℕ) (x : Figures)
+      (ew : w ≡ (i + opening cs .size) + digits (radixDigit (opening cs .hex)) false (chars (drop (i + opening cs .size) s)))
+      (em : m ≡ w + fraction (radixDigit (opening cs .hex)) 0 (chars (drop w s)))
+      (ex : exponent (opening cs .hex) (chars (drop m s)) ≡ x) where
+    abbrev p : ℕ → Bool
+    p = radixDigit (opening cs .hex)
+
+    opened : LeadAt s i (opening cs .size)
+    opened = lead-at s (opening cs .size) i (omega arith) (lead-opening cs starts)
+
+    whole : ℕ
+    whole = opening cs .size + digits p false (drop (opening cs .size) cs)
+
+    whole-is : i + whole ≡ w
+    unfolding whole
+    whole-is = let d = ap (digits p false) (opened .rest) in omega arith
+
+    whole-rest : drop whole cs ≡ chars (drop w s)
+    unfolding whole
+    whole-rest =
+        lead-at s whole i (omega arith) (lead-add (opening cs .size) (digits p false (drop (opening cs .size) cs)) cs (lead-opening cs starts) (lead-digits p (radix-small (opening cs .hex)) false (drop (opening cs .size) cs))) .rest
+        ∙ ap (λ (n : ℕ). chars (drop n s)) whole-is
+
+    mantissa-is : i + mantissa cs ≡ m
+    unfolding mantissa whole
+    mantissa-is = let f = fraction-from p whole cs in let g = ap (fraction p 0) whole-rest in let k = whole-is in omega arith
+
+    mantissa-rest : drop (mantissa cs) cs ≡ chars (drop m s)
+    mantissa-rest = lead-at s (mantissa cs) i (omega arith) (lead-mantissa cs starts) .rest ∙ ap (λ (n : ℕ). chars (drop n s)) mantissa-is
+
+    pub figures-by : (figures false cs .well ≡ x .well) × (i + figures false cs .size ≡ m + x .size)
+    unfolding figures
+    figures-by =
+        let y = ap (exponent (opening cs .hex)) mantissa-rest ∙ ex in
+        let k = mantissa-is in
+        let z = ap (λ (f : Figures). f .size) y in
+        (ap (λ (f : Figures). f .well) y, omega arith)

@@ -87,11 +87,11 @@ unfolding prefix
 prefix-dim a b e x (inl p) h = ap (prefix a b) p
 prefix-dim a b e x (inr p) h = ap (prefix a b) p ∙ simp and-false (choose-small (eqb a zeroDigit && either smallX capitalX b && hexDigit e) (eqb a zeroDigit && either smallB capitalB b && either zeroDigit oneDigit e) h)
 
-pub prefix-size : (a b e : ℕ) → 1 ≤ prefix a b e .size
+pub prefix-size : (a b e : ℕ) → (1 ≤ prefix a b e .size) × (prefix a b e .size ≤ 2)
 unfolding prefix
 prefix-size a b e = go (eqb a zeroDigit && either smallX capitalX b && hexDigit e) (eqb a zeroDigit && either smallB capitalB b && either zeroDigit oneDigit e)
   where
-    go : (s t : Bool) → 1 ≤ choose s t .size
+    go : (s t : Bool) → (1 ≤ choose s t .size) × (choose s t .size ≤ 2)
     go true t = omega arith
     go false true = omega arith
     go false false = omega arith

@@ -87,6 +87,10 @@ figures false cs =
 abbrev pub numberWord : ℕ → Bool
 numberWord c = alphanumeric c || eqb c underscore || eqb c dollar
 
+-- 7.1: "and the next character is Alphabetic or `_`".
+abbrev pub goesOn : ℕ → Bool
+goesOn c = alphabetic c || eqb c underscore
+
 unfoldable pub allChars : (ℕ → Bool) → List Char → Bool
 allChars p [] = true
 allChars p (c ∷ cs) = p (c .code) && allChars p cs
@@ -94,8 +98,7 @@ allChars p (c ∷ cs) = p (c .code) && allChars p cs
 -- Rule 7, after a number of n characters.
 unfoldable pub closing : ℕ → List Char → Lexeme
 closing n cs =
-    -- 7.1: "and the next character is Alphabetic or `_`"
-    elim (alphabetic (first (drop n cs)) || eqb (first (drop n cs)) underscore) [
+    elim (goesOn (first (drop n cs))) [
       | false ↦ is Number n
       -- 7.2: "The whole is BareWord if it consists of these only, otherwise WrongNumber."
       | true ↦ is (cond (allChars numberWord (take n cs)) BareWord ErrorWrongNumber) (n + run numberWord (drop n cs))

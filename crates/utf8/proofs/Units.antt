@@ -6,11 +6,12 @@ use native.Mathlib.Nat.{not-suc-le-zero}
 use native.Mathlib.Omega.{arith}
 use lib.ListN.{length, drop, drop-of-length-le, length-drop}
 use lib.Seq.{drop-drop}
-use Rattle.rules.specs.Utf8.{width, noCode, wellFormed, codeOf, charOf, charAt, chars}
+use Rattle.rules.specs.Utf8.{width, noCode, wellFormed, codeOf, charOf, charAt, charsAfter, chars}
+use Rattle.rules.specs.Lexeme.{first}
 use Rattle.rules.proofs.Decoding.{ends-within, width-broken, width-formed, chars-cons}
-use Rattle.utf8.specs.declared.Unit.{}
+use Rattle.utf8.specs.declared.Unit.{Unit as AnyUnit}
 use Rattle.utf8.specs.declared.Unit.the-variants as unit
-use Rattle.utf8.specs.Units.{unitOf, unitAt}
+use Rattle.utf8.specs.Units.{unitOf, unitAt, unitCode, unitLen}
 
 -- the unit by the form
 pub unit-end : (s : List ℕ) (i : ℕ) → length s ≤ i → unitAt (drop i s) ≡ unit.End
@@ -91,3 +92,23 @@ here-at s i c n h =
     let u = h .upto in
     let p = h .some in
     (h .rest ∙ ap (λ (t : List ℕ). charAt (drop i s) ∷ chars t) (drop-drop n i s), omega arith)
+
+-- the code of a unit is that of the first character, if there is one
+code-of : (w : ℕ) (t : List ℕ) → unitCode (unitOf w t) ≡ charOf w t .code
+unfolding charOf
+code-of zero t = refl
+code-of (suc w) t = refl
+
+pub unit-first : (t : List ℕ) → unitCode (unitAt t) ≡ first (chars t)
+unfolding unitAt charsAfter
+unit-first [] = refl
+unit-first (b ∷ s) = code-of (wellFormed (b ∷ s)) (b ∷ s)
+
+-- its length is that character's
+pub unit-width : (t : List ℕ) → 0 < length t → unitLen (unitAt t) ≡ width (charAt t)
+unit-width t h = go (unitAt t) refl
+  where
+    go : (u : AnyUnit) → unitAt t ≡ u → unitLen u ≡ width (charAt t)
+    go (unit.Char c n) e = sym (char-unit t c n e .size)
+    go unit.Broken e = sym (broken-unit t e .size)
+    go unit.End e = absurd (let z = ap length (end-unit t e) in omega arith)
