@@ -7,6 +7,10 @@ use Rattle.rules.specs.Kinds.{EndOfStream}
 use Rattle.rules.specs.Lexeme.{Lexeme, is}
 use Rattle.rules.specs.Operators.{operator}
 use Rattle.rules.specs.Numbers.{Opening, Figures}
+use Rattle.rules.specs.Tokens.{Token}
+use Rattle.rules.specs.Answers.{Stepped}
+use Rattle.lexer.specs.declared.token.Token.{Token as CodeToken}
+use Rattle.lexer.specs.declared.tokenizer.Stepped.{Stepped as CodeStepped}
 use Rattle.lexer.specs.declared.tokenizer.Lexed.{Lexed}
 use Rattle.lexer.specs.declared.tokenizer.Opened.{Opened}
 use Rattle.lexer.specs.declared.tokenizer.Part.{Part}
@@ -33,3 +37,10 @@ pub record AsciiTo (s : List ℕ) (i j : ℕ) : Type 0 where
   pub from : i ≤ j
   pub upto : j ≤ length s
   pub ascii : (k : ℕ) → i ≤ k → k < j → getD s k 0 < 0x80
+
+-- A token, and what a step gives.
+abbrev pub tokenOf : Token → CodeToken
+tokenOf t = record { kind = t .kind; start = t .start; end = t .end }
+
+abbrev pub stepped : Stepped → CodeStepped
+stepped a = record { number = a .number; value = a .value; token = tokenOf (a .token); cursor = a .cursor }

@@ -1,5 +1,6 @@
 // The readers, under the Rust's names and in its order. Each takes the text and an offset; none needs the text to be UTF-8.
 use crate::syntax_kind::SyntaxKind;
+use crate::token::Token;
 use classes::tables::AlphabeticTable;
 use classes::tables::NumericTable;
 use utf8::byte_at;
@@ -24,7 +25,8 @@ ghost use Rattle.rules.specs.Quotes.{quotedBody, upTo};
 ghost use Rattle.rules.specs.Dollars.{tagByte, begins, find, hereDoc, dollarLexeme};
 ghost use Rattle.rules.specs.Numbers.{digits, radixDigit, opening, fraction, marks, signs, exponent, numberWord, goesOn, allChars, closing, number};
 ghost use Rattle.rules.specs.Tokens.{lexeme, afterDotAt};
-ghost use Rattle.lexer.specs.Ends.{endsAt, opened, partAt, operatorAt, AsciiTo};
+ghost use Rattle.rules.specs.Answers.{refusedStep, step};
+ghost use Rattle.lexer.specs.Ends.{endsAt, opened, partAt, operatorAt, AsciiTo, stepped};
 ghost use Rattle.lexer.specs.Steps.{Step};
 ghost use Rattle.lexer.specs.Words.{wordWith, wordMask};
 ghost use Rattle.lexer.specs.Quotes.{curlyClose};
@@ -34,6 +36,53 @@ ghost use Rattle.lexer.specs.HereDocs.{Ascii, Delimiter, TagEnd, foundEn
 pub struct Lexed {
     pub kind: u32,
     pub end: usize,
+}
+
+// What a step gives: document 01's number and value, the token, and the cursor to go on from.
+pub struct Stepped {
+    pub number: u32,
+    pub value: usize,
+    pub token: Token,
+    pub cursor: usize,
+}
+
+fn refused_step(number: u32, cursor: usize) -> Stepped
+    ensures { λ r. ⌜ r ≡ stepped (refusedStep number cursor) ⌝ }
+{
+    Stepped {
+        number,
+        value: 0,
+        token: Token {
+            kind: 0,
+            start: 0,
+            end: 0,
+        },
+        cursor,
+    }
+}
+
+// One token at a cursor. The text is not tested for UTF-8.
+pub fn step(text: &[u8], cursor: usize) -> Stepped
+    ensures { λ r. ⌜ r ≡ stepped (step (now (text .entry)) cursor) ⌝ }
+{
+    if text.len() > rules::max_query_size() {
+        return refused_step(1, cursor);
+    }
+    if cursor > text.len() {
+        return refused_step(4, cursor);
+    }
+    let l = next_token(text, cursor);
+    let end = l.end;
+    Stepped {
+        number: 0,
+        value: end,
+        token: Token {
+            kind: l.kind,
+            start: cursor as u32,
+            end: end as u32,
+        },
+        cursor: end,
+    }
 }
 
 // The token at `start`. Words and white space are tried first, since most tokens are these.

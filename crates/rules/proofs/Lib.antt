@@ -34,8 +34,9 @@ pub mod NumberBytes
 pub mod Visible
 pub mod Relex
 pub mod Masked
--- Demand 2: the first token, the edges, the lists, and the bench sheet.
+-- Demand 2: the first token, the edges, a step, the lists, and the bench sheet.
 pub mod FirstToken
 pub mod Edges
+pub mod Stepping
 pub mod Listing
 pub mod Bench
