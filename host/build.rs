@@ -24,6 +24,7 @@ fn main() {
         println!("cargo::rerun-if-changed={root}/target/staticlib");
         println!("cargo::rustc-link-search=native={root}/target/staticlib");
         println!("cargo::rustc-link-lib=static=probe");
+        println!("cargo::rustc-link-lib=static=giehtamun");
         println!("cargo::rustc-cfg=linked");
     }
 }

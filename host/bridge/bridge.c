@@ -1,5 +1,6 @@
 /* The x86-64 host of the static library, for machines where Rust cannot link it. It includes no header, since such a machine has
-   none for x86-64. Standard input: calls, each a u32 op, a u32 length n, a u64 number, and n bytes. Standard output: a u64 for each. */
+   none for x86-64. Standard input: calls, each a head, its text, and the memory before the call. Standard output: for each call the
+   answer, a u64, and the memory after it. */
 typedef unsigned char u8;
 typedef unsigned int u32;
 typedef unsigned long u64;
@@ -13,15 +14,28 @@ u64 probe_length_at(const u8 *text, u64 len, u64 at);
 _Bool probe_is_white_space(u32 code);
 _Bool probe_is_alphabetic(u32 code);
 _Bool probe_is_alphanumeric(u32 code);
+u64 giehtamun_list(const u8 *text, u64 len, u32 mode, u8 *list, u64 lent);
+u64 giehtamun_list_up_to(const u8 *text, u64 len, u32 mode, u64 position, u8 *list, u64 lent);
+u64 giehtamun_step(const u8 *text, u64 len, u64 cursor);
 
+/* The first `lent` bytes of the memory are lent to the function. */
 struct head {
-    u32 op, len;
-    u64 number;
+    u32 op, mode;
+    u64 number, len, memory_len, lent;
 };
 
-static u8 text[1100000];
+static u8 text[1100000], memory[13200000];
 static u8 in[1 << 16], out[1 << 16];
 static u64 have, at, held;
+
+static u64 least(u64 a, u64 b) {
+    return a < b ? a : b;
+}
+
+static void copy(u8 *to, const u8 *from, u64 n) {
+    for (u64 i = 0; i < n; i++)
+        to[i] = from[i];
+}
 
 static int take(u8 *to, u64 n) {
     while (n > 0) {
@@ -32,8 +46,9 @@ static int take(u8 *to, u64 n) {
             have = (u64)got;
             at = 0;
         }
-        *to++ = in[at++];
-        n--;
+        u64 part = least(n, have - at);
+        copy(to, in + at, part);
+        to += part, at += part, n -= part;
     }
     return 1;
 }
@@ -54,8 +69,9 @@ static int give(const u8 *from, u64 n) {
     while (n > 0) {
         if (held == sizeof out && !flush())
             return 0;
-        out[held++] = *from++;
-        n--;
+        u64 part = least(n, sizeof out - held);
+        copy(out + held, from, part);
+        from += part, held += part, n -= part;
     }
     return 1;
 }
@@ -64,7 +80,9 @@ int main(void) {
     struct head h;
     while (take((u8 *)&h, sizeof h)) {
         u64 answer;
-        if (h.len > sizeof text || !take(text, h.len))
+        if (h.len > sizeof text || h.memory_len > sizeof memory || h.lent > h.memory_len)
+            return 2;
+        if (!take(text, h.len) || !take(memory, h.memory_len))
             return 2;
         switch (h.op) {
         case 1:
@@ -85,10 +103,19 @@ int main(void) {
         case 6:
             answer = probe_is_alphanumeric((u32)h.number);
             break;
+        case 7:
+            answer = giehtamun_list(text, h.len, h.mode, memory, h.lent);
+            break;
+        case 8:
+            answer = giehtamun_list_up_to(text, h.len, h.mode, h.number, memory, h.lent);
+            break;
+        case 9:
+            answer = giehtamun_step(text, h.len, h.number);
+            break;
         default:
             return 3;
         }
-        if (!give((const u8 *)&answer, sizeof answer))
+        if (!give((const u8 *)&answer, sizeof answer) || !give(memory, h.memory_len))
             return 4;
     }
     return flush() ? 0 : 4;

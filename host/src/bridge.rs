@@ -1,5 +1,5 @@
 //! The library in an x86-64 program of its own (host/bridge), for machines where Rust cannot link it.
-use crate::Call;
+use crate::{Answer, Call};
 use std::io::Write;
 use std::process::{Command, Stdio};
 
@@ -22,20 +22,27 @@ fn program() -> Command {
 }
 
 /// One run of the program over all the calls.
-pub fn ask(calls: &[Call]) -> Vec<u64> {
+pub fn ask(calls: &[Call]) -> Vec<Answer> {
     let mut child = program().stdin(Stdio::piped()).stdout(Stdio::piped()).spawn().expect("the bridge runs");
-    let mut text = vec![];
+    let mut all = vec![];
     for c in calls {
-        text.extend((c.op as u32).to_le_bytes());
-        text.extend((c.text.len() as u32).to_le_bytes());
-        text.extend(c.number.to_le_bytes());
-        text.extend(&c.text);
+        all.extend((c.op as u32).to_le_bytes());
+        all.extend(c.mode.to_le_bytes());
+        for number in [c.number, c.text.len() as u64, c.memory.len() as u64, c.lent as u64] {
+            all.extend(number.to_le_bytes());
+        }
+        all.extend(c.text);
+        all.extend(&c.memory);
     }
     let mut input = child.stdin.take().unwrap();
-    let writer = std::thread::spawn(move || input.write_all(&text));
+    let writer = std::thread::spawn(move || input.write_all(&all));
     let out = child.wait_with_output().unwrap();
     writer.join().unwrap().expect("the bridge reads all its input");
     assert!(out.status.success(), "the bridge ended with {}", out.status);
-    assert_eq!(out.stdout.len(), 8 * calls.len());
-    out.stdout.chunks(8).map(|b| u64::from_le_bytes(b.try_into().unwrap())).collect()
+    let mut rest = &out.stdout[..];
+    let mut take = |n| rest.split_off(..n).expect("the bridge answers each call");
+    let answer = |c: &Call| Answer { answer: u64::from_le_bytes(take(8).try_into().unwrap()), memory: take(c.memory.len()).to_vec() };
+    let answers = calls.iter().map(answer).collect();
+    assert!(rest.is_empty());
+    answers
 }

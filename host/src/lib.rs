@@ -1,18 +1,28 @@
-//! The oracle, and two ways to the proved library: linked (x86-64), or through the bridge, which runs anywhere.
+//! The oracle, a second reading of document 01, and two ways to the proved library: linked (x86-64), or through the bridge, which runs
+//! anywhere.
 pub mod bridge;
 #[cfg(linked)]
 pub mod linked;
 #[cfg(oracle)]
 pub mod oracle;
+pub mod reading;
+pub mod texts;
 #[cfg(oracle)]
 include!(concat!(env!("OUT_DIR"), "/oracle.rs"));
 
-/// A call: which function, its numbers, and its text.
+/// A token as document 01 has it: kind, start, end.
+pub type Triple = (u32, u32, u32);
+
+/// A call: which function, its numbers, its text, and a piece of memory. The function is lent the first `lent` bytes of the memory; that
+/// the others stay as they were shows that it writes to nothing else.
 #[derive(Clone, Debug)]
-pub struct Call {
+pub struct Call<'a> {
     pub op: Op,
+    pub mode: u32,
     pub number: u64,
-    pub text: Vec<u8>,
+    pub text: &'a [u8],
+    pub memory: Vec<u8>,
+    pub lent: usize,
 }
 
 #[derive(Clone, Copy, Debug, PartialEq)]
@@ -23,14 +33,57 @@ pub enum Op {
     IsWhiteSpace = 4,
     IsAlphabetic = 5,
     IsAlphanumeric = 6,
+    List = 7,
+    ListUpTo = 8,
+    Step = 9,
+}
+
+impl<'a> Call<'a> {
+    /// A call of a function that writes nothing; the number is its code, offset or cursor.
+    pub fn read(op: Op, number: u64, text: &'a [u8]) -> Self {
+        Call { op, mode: 0, number, text, memory: vec![], lent: 0 }
+    }
+
+    /// A call of a listing, with bytes to write to that all differ from their neighbours; the number is its position.
+    pub fn list(op: Op, mode: u32, number: u64, text: &'a [u8], lent: usize) -> Self {
+        Call { op, mode, number, text, memory: (0..lent + 13).map(|i| i as u8 ^ 0xA5).collect(), lent }
+    }
+}
+
+/// What a call gives: the function's answer, and what the memory holds afterwards.
+#[derive(Debug, PartialEq)]
+pub struct Answer {
+    pub answer: u64,
+    pub memory: Vec<u8>,
 }
 
 /// The answers to some calls, by whichever way this machine has.
-pub fn ask(calls: &[Call]) -> Vec<u64> {
+pub fn ask(calls: &[Call]) -> Vec<Answer> {
     #[cfg(linked)]
     return calls.iter().map(linked::call).collect();
     #[cfg(not(linked))]
     return bridge::ask(calls);
+}
+
+/// Asks, and holds each answer to what it should be; the number of calls.
+pub fn compare(calls: &[Call], wanted: impl IntoIterator<Item = Answer>) -> usize {
+    let mut wanted = wanted.into_iter();
+    for (call, got) in calls.iter().zip(ask(calls)) {
+        let want = wanted.next().expect("an answer to each call");
+        if got != want {
+            let Call { op, mode, number, text, lent, .. } = call;
+            let wrong = got.memory.iter().zip(&want.memory).position(|(a, b)| a != b);
+            let start = text[..text.len().min(300)].escape_ascii();
+            panic!(
+                "{op:?}, mode {mode}, number {number}, {lent} bytes lent, {} bytes of text: {start}\n\
+                 answer {:016x}, should be {:016x}; first wrong byte: {wrong:?}",
+                text.len(),
+                got.answer,
+                want.answer
+            );
+        }
+    }
+    calls.len()
 }
 
 /// A generator of pseudo-random numbers with a fixed seed, so that a run can be repeated.

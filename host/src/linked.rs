@@ -1,5 +1,5 @@
 //! The library, linked into this process.
-use crate::{Call, Op};
+use crate::{Answer, Call, Op};
 
 extern "C" {
     fn probe_valid_length(text: *const u8, len: usize) -> usize;
@@ -8,12 +8,18 @@ extern "C" {
     fn probe_is_white_space(code: u32) -> bool;
     fn probe_is_alphabetic(code: u32) -> bool;
     fn probe_is_alphanumeric(code: u32) -> bool;
+    fn giehtamun_list(text: *const u8, len: usize, mode: u32, list: *mut u8, lent: usize) -> u64;
+    fn giehtamun_list_up_to(text: *const u8, len: usize, mode: u32, position: usize, list: *mut u8, lent: usize) -> u64;
+    fn giehtamun_step(text: *const u8, len: usize, cursor: usize) -> u64;
 }
 
-pub fn call(c: &Call) -> u64 {
+pub fn call(c: &Call) -> Answer {
+    assert!(c.lent <= c.memory.len());
+    let mut memory = c.memory.clone();
     let (text, len, number) = (c.text.as_ptr(), c.text.len(), c.number);
-    // Safety: each function reads at most `len` bytes from `text`, as its Rattle source says.
-    unsafe {
+    let (list, lent) = (memory.as_mut_ptr(), c.lent);
+    // Safety: each function reads at most `len` bytes from `text` and writes at most `lent` bytes to `list`, as its Rattle source says.
+    let answer = unsafe {
         match c.op {
             Op::ValidLength => probe_valid_length(text, len) as u64,
             Op::CodeAt => probe_code_at(text, len, number as usize) as u64,
@@ -21,6 +27,10 @@ pub fn call(c: &Call) -> u64 {
             Op::IsWhiteSpace => probe_is_white_space(number as u32) as u64,
             Op::IsAlphabetic => probe_is_alphabetic(number as u32) as u64,
             Op::IsAlphanumeric => probe_is_alphanumeric(number as u32) as u64,
+            Op::List => giehtamun_list(text, len, c.mode, list, lent),
+            Op::ListUpTo => giehtamun_list_up_to(text, len, c.mode, number as usize, list, lent),
+            Op::Step => giehtamun_step(text, len, number as usize),
         }
-    }
+    };
+    Answer { answer, memory }
 }

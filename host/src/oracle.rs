@@ -2,9 +2,10 @@
 use crate::lexer::token::Token;
 use crate::lexer::tokenizer::{tokenize, tokenize_up_to, tokenize_with_whitespace, Tokenizer};
 use crate::parser::syntax_kind::SyntaxKind as K;
+use crate::{Call, Op, Triple};
 
 /// Document 01's numbers start at 1, in this order.
-const KINDS: [K; 48] = [
+pub const KINDS: [K; 48] = [
     K::Whitespace,
     K::Comment,
     K::Number,
@@ -55,9 +56,6 @@ const KINDS: [K; 48] = [
     K::ErrorMaxQuerySizeExceeded,
 ];
 
-/// A token as document 01 has it: kind, start, end.
-pub type Triple = (u32, u32, u32);
-
 fn triples(tokens: Vec<Token>) -> Vec<Triple> {
     let number = |k: K| KINDS.iter().position(|x| *x == k).expect("a kind that the lexer makes") as u32 + 1;
     tokens.into_iter().map(|t| (number(t.kind), t.start, t.end)).collect()
@@ -79,4 +77,26 @@ pub fn full_up_to(text: &str, position: usize) -> Vec<Triple> {
 
 pub fn lean_up_to(text: &str, position: usize) -> Vec<Triple> {
     triples(tokenize_up_to(text, position))
+}
+
+/// The list that a call of a listing asks for.
+pub fn asked(call: &Call) -> Vec<Triple> {
+    let text = std::str::from_utf8(call.text).expect("the Rust takes UTF-8 only");
+    match (call.op, call.mode) {
+        (Op::List, 0) => full(text),
+        (Op::List, 1) => lean(text),
+        (Op::ListUpTo, 0) => full_up_to(text, call.number as usize),
+        (Op::ListUpTo, 1) => lean_up_to(text, call.number as usize),
+        _ => panic!("the Rust has no such list: {:?} with mode {}", call.op, call.mode),
+    }
+}
+
+/// Every single token, each by a call of its own, with EndOfStream as the last.
+pub fn steps(text: &str) -> Vec<Triple> {
+    let mut t = Tokenizer::new(text);
+    let mut tokens = vec![];
+    while tokens.last().is_none_or(|last: &Token| last.kind != K::EndOfStream) {
+        tokens.push(t.next_token());
+    }
+    triples(tokens)
 }

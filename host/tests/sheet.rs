@@ -1,67 +1,130 @@
-//! Document 01's bench sheet, held against the Rust itself: what is proved of the definitions is what the Rust does.
-#![cfg(oracle)]
-use host::oracle::{full, full_up_to, lean, lean_up_to, Triple};
+//! Document 01's bench sheet, by the C functions and by the Rust: what is proved of the definitions is what both do.
+use host::{compare, reading, Answer, Call, Op, Triple};
 
-fn check(text: &str, got: Vec<Triple>, want: &[Triple]) {
-    assert_eq!(got, want, "{text:?}");
+type Case = (&'static str, &'static [Triple]);
+
+const PROVED: [Case; 12] = [
+    ("", &[]),
+    ("1e", &[(44, 0, 2)]),
+    ("1name", &[(4, 0, 5)]),
+    ("x.1.1", &[(4, 0, 1), (16, 1, 2), (3, 2, 3), (16, 3, 4), (3, 4, 5)]),
+    ("=>", &[(28, 0, 2)]),
+    ("=><", &[(29, 0, 3)]),
+    ("0x1.8p3", &[(3, 0, 7)]),
+    ("1.5a", &[(44, 0, 4)]),
+    ("'a''b'", &[(5, 0, 6)]),
+    ("$$$", &[(18, 0, 1), (18, 1, 2), (18, 2, 3)]),
+    ("$a$b$a$", &[(7, 0, 7)]),
+    ("/*/**/", &[(40, 0, 6)]),
+];
+
+const TO_RUN: [Case; 16] = [
+    ("1_2", &[(4, 0, 3)]),
+    ("12_3", &[(3, 0, 4)]),
+    ("0x1_2", &[(3, 0, 5)]),
+    ("1else", &[(44, 0, 2), (4, 2, 5)]),
+    ("1e+5x", &[(44, 0, 5)]),
+    ("1..2", &[(3, 0, 2), (16, 2, 3), (3, 3, 4)]),
+    (".1e5", &[(16, 0, 1), (4, 1, 4)]),
+    ("0b12", &[(3, 0, 4)]),
+    ("0x", &[(4, 0, 2)]),
+    ("a$b", &[(4, 0, 1), (18, 1, 2), (4, 2, 3)]),
+    ("1a$b", &[(4, 0, 4)]),
+    ("é", &[(47, 0, 2)]),
+    ("aé", &[(4, 0, 3)]),
+    ("a b", &[(4, 0, 1), (1, 1, 2), (4, 2, 3)]),
+    ("a /*c*/ b", &[(4, 0, 1), (1, 1, 2), (2, 2, 7), (1, 7, 8), (4, 8, 9)]),
+    ("x.1 <='é'", &[(4, 0, 1), (16, 1, 2), (3, 2, 3), (1, 3, 4), (32, 4, 6), (5, 6, 10)]),
+];
+
+/// Other lists of one text: listing, mode, position.
+const LISTS_OF: &str = "a /*c*/ b";
+const LISTS: [(Op, u32, u64, &[Triple]); 4] = [
+    (Op::List, 1, 0, &[(4, 0, 1), (4, 8, 9)]),
+    (Op::ListUpTo, 1, 3, &[(4, 0, 1), (2, 2, 7)]),
+    (Op::ListUpTo, 1, 2, &[(4, 0, 1)]),
+    (Op::ListUpTo, 0, 2, &[(4, 0, 1), (1, 1, 2)]),
+];
+
+const TOO_LONG: [Triple; 2] = [(48, 0, 0), (39, 0, 0)];
+
+/// A listing's number and value, and the tokens that it stores.
+fn lists(call: Call, number: u64, value: usize, tokens: &[Triple]) {
+    let mut memory = reading::packed(tokens);
+    memory.extend(&call.memory[memory.len()..]);
+    compare(&[call], [Answer { answer: reading::answer(number, 0, value), memory }]);
+}
+
+fn steps(text: &str, cursor: u64, number: u64, kind: u32, next: u32) {
+    let answer = Answer { answer: reading::answer(number, kind, next as usize), memory: vec![] };
+    compare(&[Call::read(Op::Step, cursor, text.as_bytes())], [answer]);
 }
 
 #[test]
-fn the_proved_cases() {
-    let cases: [(&str, &[Triple]); 12] = [
-        ("", &[]),
-        ("1e", &[(44, 0, 2)]),
-        ("1name", &[(4, 0, 5)]),
-        ("x.1.1", &[(4, 0, 1), (16, 1, 2), (3, 2, 3), (16, 3, 4), (3, 4, 5)]),
-        ("=>", &[(28, 0, 2)]),
-        ("=><", &[(29, 0, 3)]),
-        ("0x1.8p3", &[(3, 0, 7)]),
-        ("1.5a", &[(44, 0, 4)]),
-        ("'a''b'", &[(5, 0, 6)]),
-        ("$$$", &[(18, 0, 1), (18, 1, 2), (18, 2, 3)]),
-        ("$a$b$a$", &[(7, 0, 7)]),
-        ("/*/**/", &[(40, 0, 6)]),
-    ];
-    for (text, want) in cases {
-        check(text, full(text), want);
+fn the_cases_by_the_c_functions() {
+    for (text, tokens) in PROVED.into_iter().chain(TO_RUN) {
+        for lent in [12 * tokens.len(), 12 * text.len()] {
+            lists(Call::list(Op::List, 0, 0, text.as_bytes(), lent), 0, tokens.len(), tokens);
+        }
+        for (kind, start, end) in tokens {
+            steps(text, *start as u64, 0, *kind, *end);
+        }
+        steps(text, text.len() as u64, 0, 39, text.len() as u32);
+        steps(text, text.len() as u64 + 1, 4, 0, 0);
     }
-    // The masked case: the copy has the text's tokens, and would not with a letter for the mask.
-    assert_eq!(full("$xxx$ a $$###$$"), full("$xxx$ a $$abc$$"));
-    assert_ne!(full("$xxx$ a $$xxx$$"), full("$xxx$ a $$abc$$"));
-}
-
-#[test]
-fn the_cases_to_run() {
-    let cases: [(&str, &[Triple]); 16] = [
-        ("1_2", &[(4, 0, 3)]),
-        ("12_3", &[(3, 0, 4)]),
-        ("0x1_2", &[(3, 0, 5)]),
-        ("1else", &[(44, 0, 2), (4, 2, 5)]),
-        ("1e+5x", &[(44, 0, 5)]),
-        ("1..2", &[(3, 0, 2), (16, 2, 3), (3, 3, 4)]),
-        (".1e5", &[(16, 0, 1), (4, 1, 4)]),
-        ("0b12", &[(3, 0, 4)]),
-        ("0x", &[(4, 0, 2)]),
-        ("a$b", &[(4, 0, 1), (18, 1, 2), (4, 2, 3)]),
-        ("1a$b", &[(4, 0, 4)]),
-        ("é", &[(47, 0, 2)]),
-        ("aé", &[(4, 0, 3)]),
-        ("a b", &[(4, 0, 1), (1, 1, 2), (4, 2, 3)]),
-        ("a /*c*/ b", &[(4, 0, 1), (1, 1, 2), (2, 2, 7), (1, 7, 8), (4, 8, 9)]),
-        ("x.1 <='é'", &[(4, 0, 1), (16, 1, 2), (3, 2, 3), (1, 3, 4), (32, 4, 6), (5, 6, 10)]),
-    ];
-    for (text, want) in cases {
-        check(text, full(text), want);
+    for (op, mode, position, tokens) in LISTS {
+        lists(Call::list(op, mode, position, LISTS_OF.as_bytes(), 12 * tokens.len()), 0, tokens.len(), tokens);
     }
-    let text = "a /*c*/ b";
-    check(text, lean(text), &[(4, 0, 1), (4, 8, 9)]);
-    check(text, lean_up_to(text, 3), &[(4, 0, 1), (2, 2, 7)]);
-    check(text, lean_up_to(text, 2), &[(4, 0, 1)]);
-    check(text, full_up_to(text, 2), &[(4, 0, 1), (1, 1, 2)]);
 }
 
 #[test]
-fn the_size_limit() {
-    assert_eq!(full(&" ".repeat(1_000_000)), [(1, 0, 1_000_000)]);
-    assert_eq!(full(&" ".repeat(1_000_001)), [(48, 0, 0), (39, 0, 0)]);
+fn room_for_a_list() {
+    let (text, tokens) = TO_RUN[13];
+    for op in [Op::List, Op::ListUpTo] {
+        lists(Call::list(op, 0, u64::MAX, text.as_bytes(), 35), 3, 3, &[]);
+        lists(Call::list(op, 0, u64::MAX, text.as_bytes(), 36), 0, 3, tokens);
+    }
+}
+
+#[test]
+fn text_that_is_not_utf8() {
+    for (text, valid) in [(b"\x61\xC0\x80", 1), (b"\xED\xA0\x80", 0)] {
+        for op in [Op::List, Op::ListUpTo] {
+            lists(Call::list(op, 0, u64::MAX, text, 36), 2, valid, &[]);
+        }
+    }
+}
+
+#[test]
+fn the_size_limit_by_the_c_functions() {
+    let text = [b' '; 1_000_001];
+    lists(Call::list(Op::List, 0, 0, &text[1..], 12), 0, 1, &[(1, 0, 1_000_000)]);
+    lists(Call::list(Op::List, 0, 0, &text, 23), 3, 2, &[]);
+    lists(Call::list(Op::List, 0, 0, &text, 24), 1, 2, &TOO_LONG);
+    lists(Call::list(Op::ListUpTo, 0, 5, &text, 24), 1, 0, &[]);
+}
+
+#[cfg(oracle)]
+mod by_the_rust {
+    use super::*;
+    use host::oracle::{asked, full};
+
+    #[test]
+    fn the_cases() {
+        for (text, tokens) in PROVED.into_iter().chain(TO_RUN) {
+            assert_eq!(full(text), tokens, "{text:?}");
+        }
+        for (op, mode, position, tokens) in LISTS {
+            assert_eq!(asked(&Call::list(op, mode, position, LISTS_OF.as_bytes(), 0)), tokens, "{op:?}, mode {mode}, {position}");
+        }
+        // The masked case: the copy has the text's tokens, and would not with a letter for the mask.
+        assert_eq!(full("$xxx$ a $$###$$"), full("$xxx$ a $$abc$$"));
+        assert_ne!(full("$xxx$ a $$xxx$$"), full("$xxx$ a $$abc$$"));
+    }
+
+    #[test]
+    fn the_size_limit() {
+        assert_eq!(full(&" ".repeat(1_000_000)), [(1, 0, 1_000_000)]);
+        assert_eq!(full(&" ".repeat(1_000_001)), TOO_LONG);
+    }
 }

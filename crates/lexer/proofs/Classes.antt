@@ -14,6 +14,7 @@ use Rattle.rules.specs.Tables.{alphabeticTable, numericTable}
 use Rattle.rules.specs.Classes.{inRanges, whiteSpace, alphabetic, numeric, alphanumeric}
 use Rattle.rules.specs.Words.{wordCharacter}
 use Rattle.rules.specs.Numbers.{numberWord}
+use Rattle.rules.specs.Dollars.{tagByte}
 use Rattle.rules.proofs.Tests.{or-left, or-right}
 use Rattle.rules.proofs.Tables.{agree-at, ascii-space, alphanumeric-none}
 use Rattle.lexer.specs.Words.{wordWith, wordMask}
@@ -75,6 +76,20 @@ word-bit d b m e = ap (λ (m : ℕ). ltb b 0x80 && bit m b) e ∙ go (ltb b 0x80
     go : (t : Bool) → ltb b 0x80 ≡ t → (t && bit (wordMask d b) b) ≡ (t && wordWith d b)
     go true h = ascii-bit d b (ltb-true b 0x80 h)
     go false h = refl
+
+-- A tag's bytes are the word bytes of ASCII.
+ascii-tag : (b : ℕ) → b < 0x80 → wordCharacter b ≡ tagByte b
+unfolding alphanumeric alphabetic numeric inRanges alphabeticTable numericTable
+ascii-tag = agree-at wordCharacter tagByte 0x80 refl
+
+pub tag-word : (b : ℕ) → (ltb b 0x80 && wordWith false b) ≡ tagByte b
+tag-word b = go (ltb b 0x80) refl
+  where
+    go : (t : Bool) → ltb b 0x80 ≡ t → (t && wordWith false b) ≡ tagByte b
+    go true h = ascii-tag b (ltb-true b 0x80 h)
+    go false h =
+        let l = ltb-false b 0x80 h in
+        simp (ne-eqb b underscore (λ e. omega arith), lt-leb b 0x5A (omega arith), lt-leb b 0x7A (omega arith), lt-leb b 0x39 (omega arith), and-false)
 
 -- a test that only ASCII passes, of a byte of ASCII
 pub below : (p : ℕ → Bool) (a : ℕ) → a < 0x80 → {r : Bool} → r ≡ (ltb a 0x80 && p a) → p a ≡ r

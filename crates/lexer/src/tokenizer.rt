@@ -703,8 +703,7 @@ fn read_unicode_quoted(
 fn is_tag_byte(b: u8) -> bool
     ensures { λ r. ⌜ r ≡ tagByte b ⌝ }
 {
-    ((((b'A' <= b) & (b <= b'Z')) | ((b'a' <= b) & (b <= b'z'))) | ((b'0' <= b) & (b <= b'9')))
-        | (b == b'_')
+    is_word_byte(b, false)
 }
 
 // Where the tag bytes from `at` on end.

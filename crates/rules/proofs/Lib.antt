@@ -34,9 +34,11 @@ pub mod NumberBytes
 pub mod Visible
 pub mod Relex
 pub mod Masked
--- Demand 2: the first token, the edges, a step, the lists, and the bench sheet.
+-- Demand 2: the first token, the kinds, the edges, a step, the lists, how large answers get, and the bench sheet.
 pub mod FirstToken
+pub mod KnownKinds
 pub mod Edges
 pub mod Stepping
 pub mod Listing
+pub mod Bounds
 pub mod Bench

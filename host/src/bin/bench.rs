@@ -29,9 +29,9 @@ fn main() {
     ];
     println!("{:28} {:>12} {:>12} {:>8}", "valid_length", "ours, ms", "Rust, ms", "ratio");
     for (name, text) in texts {
-        let call = Call { op: Op::ValidLength, number: 0, text };
+        let call = Call::read(Op::ValidLength, 0, &text);
         let theirs = best(|| {
-            black_box(std::str::from_utf8(black_box(&call.text)).unwrap().len());
+            black_box(std::str::from_utf8(black_box(call.text)).unwrap().len());
         });
         let ours = best(|| {
             black_box(linked::call(black_box(&call)));

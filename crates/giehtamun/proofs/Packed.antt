@@ -1,0 +1,21 @@
+-- What is packed fits, and says what was written. Assumes nothing.
+use Prim.Native.Nat.{ℕ, _≤_}
+use native.Mathlib.Omega.{arith}
+use mathlib.Core.Path.{_≡_, ap, _∙_}
+use mathlib.Core.List.{List}
+use Rattle.rules.specs.Limits.{maxQuerySize}
+use Rattle.rules.specs.Answers.{Written}
+use Rattle.rules.proofs.Bounds.{Small}
+use Rattle.lists.specs.Answers.{numberOf, valueOf, written}
+use Rattle.lists.specs.declared.listing.Answer.{Answer}
+use Rattle.giehtamun.specs.Packed.{packed, packedList}
+
+module _ (a : Answer) (list : List ℕ) (w : Written) (e : written a list ≡ w) where
+  pub fits : Small (w .number) (w .value) → (numberOf a ≤ 255) × (valueOf a ≤ maxQuerySize)
+  fits s =
+      let n = ap (λ (x : Written). x .number) e in
+      let v = ap (λ (x : Written). x .value) e in
+      (omega (arith, s .0), omega (arith, s .1))
+
+  pub is-packed : (r : ℕ) → r ≡ packed (numberOf a) 0 (valueOf a) → packedList r list w
+  is-packed r p = (p ∙ ap (λ (x : Written). packed (x .number) 0 (x .value)) e, ap (λ (x : Written). x .buffer) e)

@@ -1,0 +1,5 @@
+-- Which tokens, where they are stored, what is answered.
+pub mod Choosing
+pub mod Packing
+pub mod Storing
+pub mod Answers

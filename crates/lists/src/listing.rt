@@ -1,0 +1,236 @@
+// The listings: all tokens of a text, or those that start before a position, as a packed list in lent bytes.
+use crate::packed::put_token;
+use lexer::syntax_kind::SyntaxKind;
+use lexer::tokenizer::next_token;
+use rules::max_query_size;
+use rules::token_bytes;
+use utf8::valid_length;
+ghost use mathlib.Core.Path.{_≡_};
+ghost use mathlib.Core.Bool.{cond};
+ghost use Prim.Native.Nat.{_-_, _*_, _≤_, _<_, _^_};
+ghost use lib.ListN.{length};
+ghost use Rattle.rules.specs.Limits.{maxQuerySize, tokenBytes};
+ghost use Rattle.rules.specs.Listing.{full, lean, pack};
+ghost use Rattle.rules.specs.Answers.{TooLong, filled, stored, tooLongList, listing, listingUpTo};
+ghost use Rattle.lists.specs.Answers.{numberOf, valueOf, written};
+ghost use Rattle.lists.specs.Choices.{keeps, chosen, storedChoice};
+
+// What a listing is asked for. `tokenize` does not look at the position. Each setter hands the settings back changed, so calls chain.
+pub struct Settings {
+    pub mode: u32,
+    pub position: usize,
+}
+
+impl Settings {
+    pub const FULL: u32 = 0;
+
+    pub const LEAN: u32 = 1;
+
+    // The full list, and no limit: no text is as long as the last number.
+    pub fn new() -> Self
+        ensures { λ r. ⌜ (r .mode ≡ full) × (r .position ≡ 2 ^ 64 - 1) ⌝ }
+    {
+        Self {
+            mode: Self::FULL,
+            position: usize::MAX,
+        }
+    }
+
+    // Any number is taken: the listings refuse a mode that is none.
+    pub fn set_mode(mut self, mode: u32) -> Self
+        ensures { λ r. ⌜ (r .mode ≡ mode) × (r .position ≡ self .position) ⌝ }
+    {
+        self.mode = mode;
+        self
+    }
+
+    pub fn set_include_whitespace(mut self, include: bool) -> Self
+        ensures { λ r. ⌜ (r .mode ≡ cond include full lean) × (r .position ≡ self .position) ⌝ }
+    {
+        self.mode = if include { Self::FULL } else { Self::LEAN };
+        self
+    }
+
+    pub fn set_position(mut self, position: usize) -> Self
+        ensures { λ r. ⌜ (r .mode ≡ self .mode) × (r .position ≡ position) ⌝ }
+    {
+        self.position = position;
+        self
+    }
+}
+
+// What a listing answers. specs/Answers.antt has document 01's number and value of each case.
+pub enum Answer {
+    // Tokens stored.
+    Done(usize),
+    // Tokens stored: two by `tokenize`, none by `tokenize_up_to_position`.
+    TooLong(usize),
+    // Bytes of the longest valid prefix.
+    NotUtf8(usize),
+    // Tokens needed.
+    NoRoom(usize),
+    NoMode,
+}
+
+impl Answer {
+    // Document 01's number.
+    pub fn number(self) -> u32
+        ensures { λ r. ⌜ r ≡ numberOf self ⌝ }
+    {
+        match self {
+            Answer::Done(_) => 0,
+            Answer::TooLong(_) => 1,
+            Answer::NotUtf8(_) => 2,
+            Answer::NoRoom(_) => 3,
+            Answer::NoMode => 6,
+        }
+    }
+
+    // Document 01's value.
+    pub fn value(self) -> usize
+        ensures { λ r. ⌜ r ≡ valueOf self ⌝ }
+    {
+        match self {
+            Answer::Done(n) => n,
+            Answer::TooLong(n) => n,
+            Answer::NotUtf8(n) => n,
+            Answer::NoRoom(n) => n,
+            Answer::NoMode => 0,
+        }
+    }
+}
+
+// Which tokens a list has: those that start before the position, without the kinds that it drops. The position lies in the text.
+struct Choice {
+    position: usize,
+    drop_whitespace: bool,
+    drop_comment: bool,
+}
+
+impl Choice {
+    fn keeps(self, kind: u32) -> bool
+        ensures { λ r. ⌜ r ≡ keeps self kind ⌝ }
+    {
+        !((self.drop_whitespace & (kind == SyntaxKind::Whitespace))
+            | (self.drop_comment & (kind == SyntaxKind::Comment)))
+    }
+}
+
+// The list's length.
+fn count(text: &[u8], choice: Choice) -> usize
+    requires { ⌜ choice .position ≤ length (now text) ⌝ }
+    ensures { λ r. ⌜ r ≡ length (chosen choice (now (text .entry)) 0) ⌝ }
+{
+    let mut n = 0;
+    let mut cursor = 0;
+    while cursor < choice.position {
+        let token = next_token(text, cursor);
+        cursor = token.end;
+        if choice.keeps(token.kind) {
+            n += 1;
+        }
+    }
+    n
+}
+
+// The list's length, or more where it fits all the same: a token has at least one byte, so with room for a token a byte nothing is counted.
+fn needed(text: &[u8], choice: Choice, room: usize) -> usize
+    requires { ⌜ choice .position ≤ length (now text) ⌝ }
+    ensures { λ r. ⌜ (let n = length (chosen choice (now (text .entry)) 0) in (n ≤ r) × (room < r → r ≡ n)) ⌝ }
+{
+    let most = text.len();
+    if most <= room {
+        return most;
+    }
+    count(text, choice)
+}
+
+// Stores the list, for which there is room, and answers its length.
+fn fill(text: &[u8], choice: Choice, list: &mut [u8]) -> usize
+    requires { ⌜ (length (now text) ≤ maxQuerySize) × (choice .position ≤ length (now text)) × (length (chosen choice (now text) 0) * tokenBytes ≤ length (now list)) ⌝ }
+    ensures { λ r. ⌜ (let ts = chosen choice (now (text .entry)) 0 in (r ≡ length ts) × (now (list .exit) ≡ filled (pack ts) (now (list .entry)))) ⌝ }
+{
+    let mut at = 0;
+    let mut cursor = 0;
+    while cursor < choice.position {
+        let start = cursor;
+        let token = next_token(text, start);
+        cursor = token.end;
+        if choice.keeps(token.kind) {
+            at = put_token(list, at, token.kind, start as u32, cursor as u32);
+        }
+    }
+    at / token_bytes()
+}
+
+// Stores the list of a text that is not too long, unless the text is not valid or the room too small.
+fn store(text: &[u8], choice: Choice, list: &mut [u8]) -> Answer
+    requires { ⌜ (length (now text) ≤ maxQuerySize) × (choice .position ≤ length (now text)) ⌝ }
+    ensures { λ r. ⌜ written r (now (list .exit)) ≡ storedChoice choice (now (text .entry)) (now (list .entry)) ⌝ }
+{
+    let valid = valid_length(text);
+    if valid != text.len() {
+        return Answer::NotUtf8(valid);
+    }
+    let room = list.len() / token_bytes();
+    let tokens = needed(text, choice, room);
+    if room < tokens {
+        return Answer::NoRoom(tokens);
+    }
+    Answer::Done(fill(text, choice, list))
+}
+
+// The list that `tokenize` gives of a text that is too long.
+fn store_too_long(list: &mut [u8]) -> Answer
+    ensures { λ r. ⌜ written r (now (list .exit)) ≡ stored tooLongList TooLong (now (list .entry)) ⌝ }
+{
+    if list.len() / token_bytes() < 2 {
+        return Answer::NoRoom(2);
+    }
+    let at = put_token(list, 0, SyntaxKind::ErrorMaxQuerySizeExceeded, 0, 0);
+    put_token(list, at, SyntaxKind::EndOfStream, 0, 0);
+    Answer::TooLong(2)
+}
+
+// The whole listing. Lean drops white space and comments.
+pub fn tokenize(settings: Settings, text: &[u8], list: &mut [u8]) -> Answer
+    ensures { λ r. ⌜ written r (now (list .exit)) ≡ listing (settings .mode) (now (text .entry)) (now (list .entry)) ⌝ }
+{
+    if settings.mode > Settings::LEAN {
+        return Answer::NoMode;
+    }
+    if text.len() > max_query_size() {
+        return store_too_long(list);
+    }
+    let lean = settings.mode == Settings::LEAN;
+    let choice = Choice {
+        position: text.len(),
+        drop_whitespace: lean,
+        drop_comment: lean,
+    };
+    store(text, choice, list)
+}
+
+// The tokens that start before the position. Lean drops white space and keeps comments.
+pub fn tokenize_up_to_position(settings: Settings, text: &[u8], list: &mut [u8]) -> Answer
+    ensures { λ r. ⌜ written r (now (list .exit)) ≡ listingUpTo (settings .mode) (settings .position) (now (text .entry)) (now (list .entry)) ⌝ }
+{
+    if settings.mode > Settings::LEAN {
+        return Answer::NoMode;
+    }
+    if text.len() > max_query_size() {
+        return Answer::TooLong(0);
+    }
+    let lean = settings.mode == Settings::LEAN;
+    let position = if settings.position < text.len() {
+        settings.position
+    } else {
+        text.len()
+    };
+    let choice = Choice {
+        position,
+        drop_whitespace: lean,
+        drop_comment: false,
+    };
+    store(text, choice, list)
+}

@@ -1,0 +1,256 @@
+//! A second reading of document 01, from its text alone: the lexical rules over any bytes, and what the C functions must answer and leave.
+//! Sentences are numbered as in docs/DECISIONS.md: 4.1 is the first sentence of rule 4.
+use crate::{Answer, Call, Op, Triple};
+
+const WHITESPACE: u32 = 1;
+const COMMENT: u32 = 2;
+const NUMBER: u32 = 3;
+const BARE_WORD: u32 = 4;
+const STRING: u32 = 5;
+const QUOTED_IDENTIFIER: u32 = 6;
+const HERE_DOC: u32 = 7;
+const DOLLAR_SIGN: u32 = 18;
+const END_OF_STREAM: u32 = 39;
+const COMMENT_IS_NOT_CLOSED: u32 = 40;
+const SINGLE_QUOTE_IS_NOT_CLOSED: u32 = 41;
+const DOUBLE_QUOTE_IS_NOT_CLOSED: u32 = 42;
+const BACK_QUOTE_IS_NOT_CLOSED: u32 = 43;
+const WRONG_NUMBER: u32 = 44;
+const ERROR_TOKEN: u32 = 47;
+const MAX_QUERY_SIZE_EXCEEDED: u32 = 48;
+
+/// Rule 2, all of it but the character at which no rule starts a token. The longest choice that fits is taken.
+#[rustfmt::skip]
+const OPERATORS: [(&str, u32); 38] = [
+    ("(", 8), (")", 9), ("[", 10), ("]", 11), ("{", 12), ("}", 13), (",", 14), (";", 15), (".", 16), ("*", 17), ("+", 19), ("%", 23),
+    ("?", 24), ("^", 27), ("-", 20), ("/", 22), (":", 25), ("<", 31), (">", 33), ("@", 36), ("\u{2212}", 20), ("->", 21), ("::", 26),
+    ("||", 35), ("@@", 37), ("!=", 30), ("<>", 30), ("<=", 32), ("<=>", 29), (">=", 34), ("=", 28), ("==", 28), ("=>", 28), ("=><", 29),
+    ("\\G", 38), ("\\g", 38), ("!", 45), ("|", 46),
+];
+
+/// What stands at a place and its length: a character, or one byte that begins none and is of no class, or nothing, of length 0.
+fn unit(text: &[u8], at: usize) -> (Option<char>, usize) {
+    let rest = &text[at..];
+    for n in 1..=rest.len().min(4) {
+        if let Ok(one) = std::str::from_utf8(&rest[..n]) {
+            return (one.chars().next(), n);
+        }
+    }
+    (None, rest.len().min(1))
+}
+
+/// Where the longest run of characters and broken bytes that pass a test ends.
+fn run(text: &[u8], from: usize, test: impl Fn(Option<char>) -> bool) -> usize {
+    let mut at = from;
+    while at < text.len() && test(unit(text, at).0) {
+        at += unit(text, at).1;
+    }
+    at
+}
+
+/// White_Space.
+fn is_space(c: Option<char>) -> bool {
+    c.is_some_and(char::is_whitespace)
+}
+
+/// 3.1: "alphanumeric characters (Alphabetic or general category Nd, Nl, No) and `_`"
+fn is_of_words(c: Option<char>) -> bool {
+    c.is_some_and(|c| c.is_alphabetic() || c.is_numeric() || c == '_')
+}
+
+/// 1.3: where a nested comment ends, if it is closed.
+fn after_comment(text: &[u8], cursor: usize) -> Option<usize> {
+    let (mut at, mut depth) = (cursor + 2, 1);
+    while depth > 0 {
+        match text.get(at..at + 2)? {
+            b"/*" => (at, depth) = (at + 2, depth + 1),
+            b"*/" => (at, depth) = (at + 2, depth - 1),
+            _ => at += 1,
+        }
+    }
+    Some(at)
+}
+
+/// 4.1: where the token of an ASCII quote ends, if it is closed.
+fn after_quote(text: &[u8], cursor: usize, quote: char) -> Option<usize> {
+    let mut at = cursor + 1;
+    loop {
+        let (c, n) = unit(text, at);
+        let after = at + n;
+        if n == 0 {
+            return None;
+        } else if c == Some('\\') {
+            at = after + unit(text, after).1;
+        } else if c != Some(quote) {
+            at = after;
+        } else if unit(text, after).0 == Some(quote) {
+            at = after + 1;
+        } else {
+            return Some(after);
+        }
+    }
+}
+
+/// 4.2: where the token of a Unicode quote ends, if it is closed.
+fn after_pair(text: &[u8], cursor: usize, close: char) -> Option<usize> {
+    let at = run(text, cursor, |c| c != Some(close));
+    (at < text.len()).then_some(at + close.len_utf8())
+}
+
+/// Rule 5: where the HereDoc ends, if one starts here.
+fn after_here_doc(text: &[u8], cursor: usize) -> Option<usize> {
+    let tag = text[cursor + 1..].iter().position(|b| *b == b'$')?;
+    let whole = &text[cursor..cursor + tag + 2];
+    let valid = whole[1..=tag].iter().all(|b| b.is_ascii_alphanumeric() || *b == b'_');
+    let body = cursor + whole.len();
+    let again = text[body..].windows(whole.len()).position(|w| w == whole)?;
+    valid.then_some(body + again + whole.len())
+}
+
+/// 6.2: where a run of digits ends.
+fn after_digits(text: &[u8], from: usize, digit: fn(&u8) -> bool) -> usize {
+    let is_digit = |i: usize| text.get(i).is_some_and(digit);
+    let mut at = from;
+    while is_digit(at) || (at > from && is_digit(at - 1) && text.get(at) == Some(&b'_') && is_digit(at + 1)) {
+        at += 1;
+    }
+    at
+}
+
+/// Rule 6: where the number ends, and whether it ended well.
+fn after_number(text: &[u8], cursor: usize) -> (usize, bool) {
+    // No rule names the byte 0.
+    let byte = |at: usize| text.get(at).copied().unwrap_or(0);
+    if cursor > 0 && byte(cursor - 1) == b'.' {
+        return (after_digits(text, cursor + 1, u8::is_ascii_digit), true);
+    }
+    let prefix = (byte(cursor), byte(cursor + 1).to_ascii_lowercase(), byte(cursor + 2));
+    let hex = matches!(prefix, (b'0', b'x', _)) && prefix.2.is_ascii_hexdigit();
+    let taken = hex || matches!(prefix, (b'0', b'b', b'0' | b'1'));
+    let digit = if hex { u8::is_ascii_hexdigit } else { u8::is_ascii_digit };
+    let mut at = after_digits(text, cursor + 1 + taken as usize, digit);
+    if byte(at) == b'.' {
+        at = after_digits(text, at + 1, digit);
+    }
+    if byte(at).to_ascii_lowercase() == if hex { b'p' } else { b'e' } {
+        at += 1;
+        at += matches!(byte(at), b'+' | b'-') as usize;
+        if !byte(at).is_ascii_digit() {
+            return (at, false);
+        }
+        at = after_digits(text, at, u8::is_ascii_digit);
+    }
+    (at, true)
+}
+
+/// Rules 6 and 7: kind and end of what a digit starts.
+fn number(text: &[u8], cursor: usize) -> (u32, usize) {
+    let (end, well) = after_number(text, cursor);
+    if !well {
+        return (WRONG_NUMBER, end);
+    }
+    if !unit(text, end).0.is_some_and(|c| c.is_alphabetic() || c == '_') {
+        return (NUMBER, end);
+    }
+    let taken = |c| is_of_words(c) || c == Some('$');
+    let after = run(text, end, taken);
+    (if run(text, cursor, taken) == after { BARE_WORD } else { WRONG_NUMBER }, after)
+}
+
+/// The token at a cursor that is not beyond the text.
+pub fn token_at(text: &[u8], cursor: usize) -> Triple {
+    let (first, length) = unit(text, cursor);
+    let rest = &text[cursor..];
+    let closed_or = |kind, unclosed, end: Option<usize>| end.map_or((unclosed, text.len()), |end| (kind, end));
+    let (kind, end) = match first {
+        None if length == 0 => (END_OF_STREAM, cursor),
+        None => (ERROR_TOKEN, cursor + length),
+        _ if is_space(first) => (WHITESPACE, run(text, cursor, is_space)),
+        Some('0'..='9') => number(text, cursor),
+        Some('a'..='z' | 'A'..='Z' | '_') => (BARE_WORD, run(text, cursor, is_of_words)),
+        Some('\'') => closed_or(STRING, SINGLE_QUOTE_IS_NOT_CLOSED, after_quote(text, cursor, '\'')),
+        Some('"') => closed_or(QUOTED_IDENTIFIER, DOUBLE_QUOTE_IS_NOT_CLOSED, after_quote(text, cursor, '"')),
+        Some('`') => closed_or(QUOTED_IDENTIFIER, BACK_QUOTE_IS_NOT_CLOSED, after_quote(text, cursor, '`')),
+        Some('\u{2018}') => closed_or(STRING, SINGLE_QUOTE_IS_NOT_CLOSED, after_pair(text, cursor, '\u{2019}')),
+        Some('\u{201C}') => closed_or(QUOTED_IDENTIFIER, DOUBLE_QUOTE_IS_NOT_CLOSED, after_pair(text, cursor, '\u{201D}')),
+        Some('$') => after_here_doc(text, cursor).map_or((DOLLAR_SIGN, cursor + 1), |end| (HERE_DOC, end)),
+        Some('-') if rest.starts_with(b"--") => (COMMENT, run(text, cursor, |c| c != Some('\n'))),
+        Some('/') if rest.starts_with(b"/*") => closed_or(COMMENT, COMMENT_IS_NOT_CLOSED, after_comment(text, cursor)),
+        Some(_) => {
+            let fits = OPERATORS.iter().filter(|(operator, _)| rest.starts_with(operator.as_bytes()));
+            let longest = fits.max_by_key(|(operator, _)| operator.len());
+            longest.map_or((ERROR_TOKEN, cursor + length), |(operator, kind)| (*kind, cursor + operator.len()))
+        }
+    };
+    (kind, cursor as u32, end as u32)
+}
+
+/// The full list.
+pub fn full(text: &[u8]) -> Vec<Triple> {
+    let mut tokens = vec![];
+    let mut at = 0;
+    while at < text.len() {
+        let token = token_at(text, at);
+        at = token.2 as usize;
+        tokens.push(token);
+    }
+    tokens
+}
+
+/// The list that a call of a listing asks for, from the full one.
+pub fn asked(call: &Call, mut tokens: Vec<Triple>) -> Vec<Triple> {
+    if call.op == Op::ListUpTo {
+        tokens.retain(|t| (t.1 as u64) < call.number);
+    }
+    if call.mode == 1 {
+        tokens.retain(|t| t.0 != WHITESPACE && (t.0 != COMMENT || call.op == Op::ListUpTo));
+    }
+    tokens
+}
+
+/// "the number in bits 56 to 63, a kind in bits 48 to 55 (steps only, else 0), the value in bits 0 to 47"
+pub fn answer(number: u64, kind: u32, value: usize) -> u64 {
+    number << 56 | (kind as u64) << 48 | value as u64
+}
+
+/// "A packed list holds 12 bytes a token: kind, start, end, each 32 bits, low byte first."
+pub fn packed(tokens: &[Triple]) -> Vec<u8> {
+    tokens.iter().flat_map(|t| [t.0, t.1, t.2]).flat_map(u32::to_le_bytes).collect()
+}
+
+/// What a call of a listing must give, where `asked` makes the list that it asks for.
+pub fn listing(call: &Call, asked: impl FnOnce() -> Vec<Triple>) -> Answer {
+    let refused = |number, value| Answer { answer: answer(number, 0, value), memory: call.memory.clone() };
+    let stored = |number, tokens: Vec<Triple>| {
+        if call.lent / 12 < tokens.len() {
+            return refused(3, tokens.len());
+        }
+        let mut memory = packed(&tokens);
+        memory.extend(&call.memory[memory.len()..]);
+        Answer { answer: answer(number, 0, tokens.len()), memory }
+    };
+    if call.mode > 1 {
+        refused(6, 0)
+    } else if call.text.len() > 1_000_000 {
+        match call.op {
+            Op::List => stored(1, vec![(MAX_QUERY_SIZE_EXCEEDED, 0, 0), (END_OF_STREAM, 0, 0)]),
+            _ => refused(1, 0),
+        }
+    } else if let Err(e) = std::str::from_utf8(call.text) {
+        refused(2, e.valid_up_to())
+    } else {
+        stored(0, asked())
+    }
+}
+
+/// What a step must answer.
+pub fn step(text: &[u8], cursor: u64) -> u64 {
+    if text.len() > 1_000_000 {
+        answer(1, 0, 0)
+    } else if cursor > text.len() as u64 {
+        answer(4, 0, 0)
+    } else {
+        let (kind, _, end) = token_at(text, cursor as usize);
+        answer(0, kind, end as usize)
+    }
+}

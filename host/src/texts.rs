@@ -1,0 +1,149 @@
+//! Texts to compare on: every short one over an alphabet, and seeded random ones, whole and damaged.
+use crate::{reading, Random};
+
+/// The characters that matter to some rule, and a few of each class.
+#[rustfmt::skip]
+pub const ALPHABET: [char; 41] = [
+    '\'', '"', '`', '\u{2018}', '\u{2019}', '\u{201C}', '\u{201D}', '\\', '$', '_', '0', '1', '7', 'x', 'e', 'p', 'b', 'a', 'G', '.', '+',
+    '-', '/', '*', '=', '<', '>', '!', '|', '@', ':', '\n', ' ', '\u{A0}', 'é', 'ש', '\u{661}', '\u{2212}', '𝒳', '😀', '#',
+];
+
+/// Every text of some length, in characters of the alphabet, a part of them at a time.
+pub fn every(length: u32) -> impl Iterator<Item = Vec<String>> {
+    const PART: usize = 1 << 11;
+    let count = ALPHABET.len().pow(length);
+    let text = move |i: usize| (0..length).map(|k| ALPHABET[i / ALPHABET.len().pow(k) % ALPHABET.len()]).collect();
+    (0..count).step_by(PART).map(move |from| (from..count.min(from + PART)).map(text).collect())
+}
+
+/// How many random texts a test takes: some, or 30 times as many where GIEHTAMUN_LONG is set.
+pub fn how_many(normally: usize) -> usize {
+    normally * if std::env::var_os("GIEHTAMUN_LONG").is_some() { 30 } else { 1 }
+}
+
+#[rustfmt::skip]
+const WORDS: [&str; 28] = [
+    "SELECT", "FROM", "where", "GROUP BY", "ORDER BY", "LIMIT", "AS", "WITH", "INSERT INTO", "Array", "Nullable", "toDateTime64", "count",
+    "number", "x", "_a1", "t", "user_id", "system", "e5", "x1F", "b01", "naïve", "aé", "z_ש", "v١", "mⅫ", "k½",
+];
+
+#[rustfmt::skip]
+const OPERATORS: [&str; 50] = [
+    "(", ")", "[", "]", "{", "}", ",", ";", ".", "*", "$", "+", "-", "->", "/", "%", "?", ":", "::", "^", "=", "==", "=>", "=><", "!=", "!",
+    "<", "<=", "<=>", "<>", ">", ">=", "||", "|", "@", "@@", "\\G", "\\g", "\\", "\u{2212}", "--", "/*", "*/", "\u{2019}", "\u{201D}", "#",
+    "&", "~", "\u{200B}", "\u{FEFF}",
+];
+
+const SPACES: [&str; 12] = [" ", " ", " ", "  ", "\n", "\r\n", "\t", "\u{B}", "\u{85}", "\u{A0}", "\u{2003}", "\u{3000}"];
+
+#[rustfmt::skip]
+const BODIES: [&str; 26] = [
+    "a", "b c", "0", "''", "\"\"", "``", "'", "\"", "`", "\\", "\\\\", "\\'", "\\\"", "\\`", "\\n", "\n", "--", "/*", "*/", "$", "$$",
+    "é", "שלום", "القاهرة", "𝒳", "\u{2019}",
+];
+
+/// One of some texts, several times over.
+fn some(r: &mut Random, from: &[&str], most: usize) -> String {
+    (0..r.below(most + 1)).map(|_| r.one_of(from)).collect()
+}
+
+fn number(r: &mut Random) -> String {
+    let prefix = r.one_of(&["", "", "", "0x", "0X", "0b", "0B", "0", "."]);
+    let digits = ["0", "1", "9", "12", "7_", "_", "345"];
+    let hex_digits = ["0", "1", "aF", "e", "9_", "_", "B"];
+    let digits = if prefix.ends_with(['x', 'X']) && r.below(8) > 0 { hex_digits } else { digits };
+    let mut text = format!("{prefix}{}{}", r.one_of(&["", "0", "1", "8"]), some(r, &digits, 3));
+    if r.below(3) == 0 {
+        text += r.one_of(&[".", ".", ".", ".."]);
+        text += &some(r, &digits, 2);
+    }
+    if r.below(3) == 0 {
+        text += r.one_of(&["e", "E", "p", "P"]);
+        text += r.one_of(&["", "+", "-", "+-"]);
+        text += &some(r, &digits, 2);
+    }
+    if r.below(4) == 0 {
+        text += r.one_of(&["a", "_", "$", "é", "ש", "١", "x", "lse", "_$b", "e"]);
+    }
+    text
+}
+
+fn comment(r: &mut Random, depth: usize) -> String {
+    let mut text = "/*".to_string();
+    for _ in 0..r.below(3) {
+        text += &some(r, &["a", " ", "*", "/", "é", "--", "'"], 4);
+        if depth < 4 && r.below(2) == 0 {
+            text += &comment(r, depth + 1);
+        }
+    }
+    text + r.one_of(&["*/", "*/", "*/", "*/", "**/", "*", ""])
+}
+
+/// A piece of a query, now and then one that has no end.
+fn piece(r: &mut Random) -> String {
+    match r.below(16) {
+        0..=2 => r.one_of(&SPACES).to_string(),
+        3..=4 => r.one_of(&WORDS).to_string(),
+        5..=6 => number(r),
+        7..=8 => r.one_of(&OPERATORS).to_string(),
+        9..=10 => {
+            let (open, close) = r.one_of(&[("'", "'"), ("\"", "\""), ("`", "`"), ("\u{2018}", "\u{2019}"), ("\u{201C}", "\u{201D}")]);
+            format!("{open}{}{}", some(r, &BODIES, 5), if r.below(8) == 0 { "" } else { close })
+        }
+        11 => {
+            let tag = r.one_of(&["$$", "$a$", "$a$", "$ab_1$", "$é$", "$a b$"]);
+            format!("{tag}{}{}", some(r, &BODIES, 4), if r.below(5) == 0 { "" } else { tag })
+        }
+        12 => format!("--{}{}", some(r, &BODIES, 4), if r.below(8) == 0 { "" } else { "\n" }),
+        13 => comment(r, 0),
+        14 => r.one_of(&ALPHABET).to_string(),
+        _ => char::from_u32(r.below(0x110000) as u32).unwrap_or('\u{FFFD}').to_string(),
+    }
+}
+
+/// Whether what a text ends with would take all that follows: a quote or a comment that is not closed.
+fn is_open(text: &str) -> bool {
+    reading::full(text.as_bytes()).last().is_some_and(|token| (40..=43).contains(&token.0))
+}
+
+/// A query of 0 to 300 pieces, mostly of a few; one of 3,000 has up to 20,000 bytes. Of three, two have only pieces that are closed.
+pub fn random(r: &mut Random) -> String {
+    let (pieces, bytes) = match r.below(3000) {
+        0 => (20_000, r.below(20_000)),
+        1..=60 => (300, 20_000),
+        61..=700 => (40, 20_000),
+        701..=1700 => (12, 20_000),
+        _ => (4, 20_000),
+    };
+    let closed = r.below(3) > 0;
+    let mut text = String::new();
+    for _ in 0..r.below(pieces + 1) {
+        let piece = piece(r);
+        if text.len() + piece.len() > bytes {
+            break;
+        }
+        if !(closed && is_open(&piece)) {
+            text += &piece;
+        }
+    }
+    text
+}
+
+/// A text with some of its bytes replaced, removed or doubled, or cut off at a byte.
+pub fn damaged(r: &mut Random, text: &str) -> Vec<u8> {
+    let mut text = text.as_bytes().to_vec();
+    for _ in 0..1 + r.below(4) {
+        if text.is_empty() {
+            break;
+        }
+        let at = r.below(text.len());
+        match r.below(5) {
+            0 => text[at] = r.next() as u8,
+            1 => text[at] = r.one_of(&[0x80, 0xBF, 0xC0, 0xC3, 0xE2, 0xED, 0xF0, 0xFF]),
+            2 => drop(text.remove(at)),
+            3 => text.insert(at, text[at]),
+            _ => text.truncate(at),
+        }
+    }
+    text
+}

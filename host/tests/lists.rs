@@ -1,0 +1,181 @@
+//! The listings, through the C functions, against the Rust: what they answer, what they write, and what they do not write.
+#![cfg(oracle)]
+use host::{bridge, compare, oracle, reading, texts, Answer, Call, Op, Random};
+
+fn want(call: &Call) -> Answer {
+    reading::listing(call, || oracle::asked(call))
+}
+
+/// The number of tokens of the list that a call asks for without a buffer.
+fn tokens(call: &Call) -> usize {
+    match want(call) {
+        Answer { answer, .. } if answer >> 56 == 3 => answer as u32 as usize,
+        _ => 0,
+    }
+}
+
+/// Lengths of a buffer: none, a byte short of the list, just the list, almost a token more, and around a token for each byte of the text,
+/// from where on the library need not count first.
+fn lengths(call: &Call) -> [usize; 8] {
+    let list = 12 * tokens(call);
+    let most = 12 * call.text.len();
+    [0, list.saturating_sub(1), list, list + 11, most.saturating_sub(12), most.saturating_sub(1), most, most + 25]
+}
+
+/// Calls for a list with buffers of some of these lengths.
+fn with_lengths<'a>(calls: &mut Vec<Call<'a>>, op: Op, mode: u32, position: u64, text: &'a [u8], some: impl IntoIterator<Item = usize>) {
+    let lengths = lengths(&Call::list(op, mode, position, text, 0));
+    calls.extend(some.into_iter().map(|i| Call::list(op, mode, position, text, lengths[i])));
+}
+
+/// Positions around some of a text's edges: before, at and after each; with 0, the length, and the greatest number.
+fn positions(text: &[u8], some: impl Fn(usize) -> bool) -> Vec<u64> {
+    let edges = std::str::from_utf8(text).map_or(vec![], oracle::full).into_iter().map(|t| t.1 as u64);
+    let some = edges.enumerate().filter(|(i, _)| some(*i)).map(|(_, edge)| edge);
+    let mut all: Vec<u64> = some.chain([0, text.len() as u64]).flat_map(|p| [p.saturating_sub(1), p, p + 1]).collect();
+    all.push(u64::MAX);
+    all.sort();
+    all.dedup();
+    all
+}
+
+/// Both listings in modes that there are not.
+fn without_mode<'a>(calls: &mut Vec<Call<'a>>, text: &'a [u8]) {
+    for mode in [2, u32::MAX] {
+        calls.push(Call::list(Op::List, mode, 0, text, 12 * text.len()));
+        calls.push(Call::list(Op::ListUpTo, mode, u64::MAX, text, 12 * text.len()));
+    }
+}
+
+#[test]
+fn every_text_of_up_to_three_characters() {
+    let (mut count, mut compared) = (0, 0);
+    for some in (0..=3).flat_map(texts::every) {
+        let mut calls = vec![];
+        for text in some.iter().map(|t| t.as_bytes()) {
+            for mode in [0, 1] {
+                with_lengths(&mut calls, Op::List, mode, 0, text, 0..8);
+                for position in positions(text, |_| true) {
+                    with_lengths(&mut calls, Op::ListUpTo, mode, position, text, 0..8);
+                }
+            }
+            without_mode(&mut calls, text);
+        }
+        count += some.len();
+        compared += compare(&calls, calls.iter().map(want));
+    }
+    println!("{count} texts of up to 3 characters, all four lists around every edge with every length of buffer: {compared} calls");
+}
+
+#[test]
+fn every_text_of_four_characters() {
+    let mut r = Random(0x452821E638D01377);
+    let mut compared = 0;
+    for some in texts::every(4) {
+        let mut calls = vec![];
+        for text in some.iter().map(|t| t.as_bytes()) {
+            for mode in [0, 1] {
+                with_lengths(&mut calls, Op::List, mode, 0, text, [2, 6, r.below(8)]);
+                for position in positions(text, |_| true) {
+                    with_lengths(&mut calls, Op::ListUpTo, mode, position, text, [r.below(8)]);
+                }
+            }
+        }
+        compared += compare(&calls, calls.iter().map(want));
+    }
+    println!("every text of 4 characters, all four lists around every edge, each with a length of buffer: {compared} calls");
+}
+
+#[test]
+fn every_character() {
+    let texts: Vec<String> = ('\0'..=char::MAX).map(|c| format!("{c}a{c}1{c}'{c}")).collect();
+    let mut compared = 0;
+    for some in texts.chunks(1 << 14) {
+        let calls: Vec<Call> = some.iter().map(|text| Call::list(Op::List, 0, 0, text.as_bytes(), 12 * text.len())).collect();
+        compared += compare(&calls, calls.iter().map(want));
+    }
+    println!("every character, first, in a word, after a number and in a string: {compared} calls");
+}
+
+#[test]
+fn random_texts() {
+    let mut r = Random(0x13198A2E03707344);
+    let n = texts::how_many(300_000);
+    let (mut bytes, mut broken, mut compared) = (0, 0, 0);
+    for _ in 0..n / 100 {
+        let text = |i| {
+            let text = texts::random(&mut r);
+            if i % 4 == 0 {
+                texts::damaged(&mut r, &text)
+            } else {
+                text.into_bytes()
+            }
+        };
+        let some: Vec<Vec<u8>> = (0..100).map(text).collect();
+        let mut calls = vec![];
+        for text in &some {
+            bytes += text.len();
+            broken += std::str::from_utf8(text).is_err() as usize;
+            // Around every edge of a text of a few tokens, and around a few edges of any other.
+            let step = 1 + text.len() / 25;
+            let from = r.below(step);
+            let positions = positions(text, |i| i % step == from);
+            for mode in [0, 1] {
+                with_lengths(&mut calls, Op::List, mode, 0, text, 0..8);
+                for position in &positions {
+                    with_lengths(&mut calls, Op::ListUpTo, mode, *position, text, [r.below(8)]);
+                }
+            }
+            without_mode(&mut calls, text);
+        }
+        compared += compare(&calls, calls.iter().map(want));
+    }
+    println!("{n} random texts of {bytes} bytes, {broken} of them not UTF-8, all four lists: {compared} calls");
+}
+
+/// Around the size limit: one long token, a token a byte, queries, and each of these with its last byte broken.
+#[test]
+fn sizes() {
+    let mut compared = 0;
+    for length in [999_999, 1_000_000, 1_000_001] {
+        for part in [" ", "+", "SELECT 'שלום', 1.5e3 -- ؟\n FROM `t`;", "$a"] {
+            let mut text = part.repeat(length / part.len()).into_bytes();
+            text.resize(length, b'\n');
+            let mut broken = text.clone();
+            broken[length - 1] = 0xE2;
+            for text in [&text, &broken] {
+                for mode in [0, 1, 2] {
+                    let mut calls = vec![];
+                    let list = 12 * tokens(&Call::list(Op::List, mode, 0, text, 0));
+                    for lent in [0, 11, 12, 23, 24, 25, 36, list.saturating_sub(1), list, 12 * length] {
+                        calls.push(Call::list(Op::List, mode, 0, text, lent));
+                    }
+                    for position in [0, 1, 2, 999_999, 1_000_000, u64::MAX] {
+                        calls.push(Call::list(Op::ListUpTo, mode, position, text, 24));
+                    }
+                    calls.push(Call::list(Op::ListUpTo, mode, 999_999, text, list));
+                    compared += compare(&calls, calls.iter().map(want));
+                }
+            }
+        }
+    }
+    println!("texts of 999,999, 1,000,000 and 1,000,001 bytes: {compared} calls");
+}
+
+/// The bridge answers as whatever `ask` uses on this machine.
+#[test]
+fn the_bridge_agrees() {
+    let mut r = Random(0xA4093822299F31D0);
+    let mut texts: Vec<Vec<u8>> = (0..2000).map(|_| texts::random(&mut r).into_bytes()).collect();
+    texts.push(vec![b'+'; 1_000_000]);
+    let mut calls = vec![];
+    for text in &texts {
+        let at = r.below(text.len() + 2) as u64;
+        for mode in [0, 1] {
+            with_lengths(&mut calls, Op::List, mode, 0, text, [1, 2, 6]);
+            with_lengths(&mut calls, Op::ListUpTo, mode, at, text, [1, 2, 6]);
+        }
+        calls.push(Call::read(Op::Step, at, text));
+    }
+    println!("the bridge: {} calls", compare(&calls, bridge::ask(&calls)));
+}

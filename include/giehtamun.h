@@ -1,0 +1,129 @@
+/* Giehtamun: ClickHouse's SQL tokenizer as C functions. Each function is proved to answer what its comment says.
+
+   A text is any bytes. A token has a kind, a start and an end, both byte offsets into the text; it ends before the byte at its end. A
+   packed list holds GIEHTAMUN_TOKEN_BYTES bytes a token: kind, start, end, each 32 bits, low byte first. A list's room is its length
+   divided by that, rounded down.
+
+   An answer is one number of 64 bits, which giehtamun_number, giehtamun_kind and giehtamun_value take apart. */
+#ifndef GIEHTAMUN_H
+#define GIEHTAMUN_H
+
+#include <stddef.h>
+#include <stdint.h>
+
+#ifdef __cplusplus
+extern "C" {
+#endif
+
+/* The longest text that is read, in bytes. */
+#define GIEHTAMUN_MAX_QUERY_SIZE 1000000
+
+/* The bytes of a token in a packed list. */
+#define GIEHTAMUN_TOKEN_BYTES 12
+
+/* Listing modes. A lean list leaves out white space; that of a whole text leaves out comments too. */
+#define GIEHTAMUN_FULL 0
+#define GIEHTAMUN_LEAN 1
+
+/* The numbers that come back, checked in the order 6, 1, 2, 4, 3. A refusal writes nothing, but for what giehtamun_list says of 1. */
+enum giehtamun_numbers {
+    GIEHTAMUN_DONE = 0,     /* the value is the tokens stored, or a step's next cursor */
+    GIEHTAMUN_TOO_LONG = 1, /* the text has over GIEHTAMUN_MAX_QUERY_SIZE bytes; the value is 0 */
+    GIEHTAMUN_NOT_UTF8 = 2, /* listings; the value is the length of the longest valid prefix that ends at a character's end */
+    GIEHTAMUN_NO_ROOM = 3,  /* listings; the value is the tokens needed */
+    GIEHTAMUN_BEYOND = 4,   /* the cursor is beyond the text's length; the value is 0 */
+    GIEHTAMUN_NO_MODE = 6   /* the listing mode is neither 0 nor 1; the value is 0 */
+};
+
+enum giehtamun_kinds {
+    GIEHTAMUN_NO_TOKEN = 0,
+    GIEHTAMUN_WHITESPACE = 1,
+    GIEHTAMUN_COMMENT = 2,
+    GIEHTAMUN_NUMBER = 3,
+    GIEHTAMUN_BARE_WORD = 4,
+    GIEHTAMUN_STRING_TOKEN = 5,
+    GIEHTAMUN_QUOTED_IDENTIFIER = 6,
+    GIEHTAMUN_HERE_DOC = 7,
+    GIEHTAMUN_OPENING_ROUND_BRACKET = 8,
+    GIEHTAMUN_CLOSING_ROUND_BRACKET = 9,
+    GIEHTAMUN_OPENING_SQUARE_BRACKET = 10,
+    GIEHTAMUN_CLOSING_SQUARE_BRACKET = 11,
+    GIEHTAMUN_OPENING_CURLY_BRACE = 12,
+    GIEHTAMUN_CLOSING_CURLY_BRACE = 13,
+    GIEHTAMUN_COMMA = 14,
+    GIEHTAMUN_SEMICOLON = 15,
+    GIEHTAMUN_DOT = 16,
+    GIEHTAMUN_STAR = 17,
+    GIEHTAMUN_DOLLAR_SIGN = 18,
+    GIEHTAMUN_PLUS = 19,
+    GIEHTAMUN_MINUS = 20,
+    GIEHTAMUN_ARROW = 21,
+    GIEHTAMUN_SLASH = 22,
+    GIEHTAMUN_PERCENT = 23,
+    GIEHTAMUN_QUESTION_MARK = 24,
+    GIEHTAMUN_COLON = 25,
+    GIEHTAMUN_DOUBLE_COLON = 26,
+    GIEHTAMUN_CARET = 27,
+    GIEHTAMUN_EQUALS = 28,
+    GIEHTAMUN_SPACESHIP = 29,
+    GIEHTAMUN_NOT_EQUALS = 30,
+    GIEHTAMUN_LESS = 31,
+    GIEHTAMUN_LESS_OR_EQUALS = 32,
+    GIEHTAMUN_GREATER = 33,
+    GIEHTAMUN_GREATER_OR_EQUALS = 34,
+    GIEHTAMUN_CONCATENATION = 35,
+    GIEHTAMUN_AT = 36,
+    GIEHTAMUN_DOUBLE_AT = 37,
+    GIEHTAMUN_VERTICAL_DELIMITER = 38,
+    GIEHTAMUN_END_OF_STREAM = 39,
+    GIEHTAMUN_ERROR_MULTILINE_COMMENT_IS_NOT_CLOSED = 40,
+    GIEHTAMUN_ERROR_SINGLE_QUOTE_IS_NOT_CLOSED = 41,
+    GIEHTAMUN_ERROR_DOUBLE_QUOTE_IS_NOT_CLOSED = 42,
+    GIEHTAMUN_ERROR_BACK_QUOTE_IS_NOT_CLOSED = 43,
+    GIEHTAMUN_ERROR_WRONG_NUMBER = 44,
+    GIEHTAMUN_ERROR_SINGLE_EXCLAMATION_MARK = 45,
+    GIEHTAMUN_ERROR_SINGLE_PIPE_MARK = 46,
+    GIEHTAMUN_ERROR_TOKEN = 47,
+    GIEHTAMUN_ERROR_MAX_QUERY_SIZE_EXCEEDED = 48
+};
+
+/* The number of an answer: bits 56 to 63. */
+static inline uint32_t giehtamun_number(uint64_t answer) {
+    return (uint32_t)(answer >> 56);
+}
+
+/* The kind in a step's answer, 0 in any other: bits 48 to 55. */
+static inline uint32_t giehtamun_kind(uint64_t answer) {
+    return (uint32_t)(answer >> 48) & 0xFF;
+}
+
+/* The value of an answer: bits 0 to 47. */
+static inline uint64_t giehtamun_value(uint64_t answer) {
+    return answer & 0xFFFFFFFFFFFF;
+}
+
+/* The tokens of the whole text, into the front of `list`, whose other bytes stay as they are. Full, they cover the text without a gap.
+   Lean drops exactly white space and comments. EndOfStream is not stored.
+   Answers 0 and the number of tokens, or refuses with 6, 1, 2 or 3.
+   A text that is too long has two tokens, ErrorMaxQuerySizeExceeded at 0..0 and EndOfStream at 0..0. These are stored and the answer is
+   1 with value 2; where `list` has room for fewer than two, it is 3 with value 2, and nothing is written.
+   Room for `text_len` tokens is always enough, and then the tokens are not counted first. */
+uint64_t giehtamun_list(const uint8_t *text, size_t text_len, uint32_t mode, uint8_t *list, size_t list_len);
+
+/* The same for the tokens that start before a position; the last may run past it. The position may be any number and need not be a
+   character's edge. Lean drops white space only, and keeps comments.
+   Answers 0 and the number of tokens, or refuses with 6, 1 (value 0), 2 or 3. */
+uint64_t giehtamun_list_up_to(const uint8_t *text, size_t text_len, uint32_t mode, size_t position, uint8_t *list, size_t list_len);
+
+/* The one token that starts at a cursor: its kind, and as the value its end, which is the next cursor. At the text's end it is
+   EndOfStream, and the value is the text's length.
+   The whole text is not tested for UTF-8. A byte that begins no well-formed character is read as one character of one byte and of no
+   class, so that a cursor inside a character is answered too.
+   Answers 0, or refuses with 1 or 4, kind 0 and value 0. */
+uint64_t giehtamun_step(const uint8_t *text, size_t text_len, size_t cursor);
+
+#ifdef __cplusplus
+}
+#endif
+
+#endif
