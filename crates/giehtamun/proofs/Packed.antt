@@ -1,5 +1,5 @@
 -- What is packed fits, and says what was written. Assumes nothing.
-use Prim.Native.Nat.{ℕ, _≤_}
+use Prim.Native.Nat.{ℕ, _/_, _%_, _^_, _≤_}
 use native.Mathlib.Omega.{arith}
 use mathlib.Core.Path.{_≡_, ap, _∙_}
 use mathlib.Core.List.{List}
@@ -19,3 +19,14 @@ module _ (a : Answer) (list : List ℕ) (w : Written) (e : written a list ≡ w)
 
   pub is-packed : (r : ℕ) → r ≡ packed (numberOf a) 0 (valueOf a) → packedList r list w
   is-packed r p = (p ∙ ap (λ (x : Written). packed (x .number) 0 (x .value)) e, ap (λ (x : Written). x .buffer) e)
+
+-- Nothing is lost: each part is read back by division, as the header's helpers do.
+module _ (number kind value : ℕ) (k : kind ≤ 255) (v : value ≤ maxQuerySize) where
+  pub number-back : packed number kind value / 2 ^ 56 ≡ number
+  number-back = omega arith
+
+  pub kind-back : packed number kind value / 2 ^ 48 % 256 ≡ kind
+  kind-back = omega arith
+
+  pub value-back : packed number kind value % 2 ^ 48 ≡ value
+  value-back = omega arith

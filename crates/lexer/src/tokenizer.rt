@@ -149,16 +149,12 @@ fn read_wide(text: &[u8], start: usize) -> Lexed
             SyntaxKind::ErrorDoubleQuoteIsNotClosed,
         );
     }
-    if c == 0x2212 {
-        return Lexed {
-            kind: SyntaxKind::Minus,
-            end: after,
-        };
-    }
-    Lexed {
-        kind: SyntaxKind::ErrorToken,
-        end: after,
-    }
+    let kind = if c == 0x2212 {
+        SyntaxKind::Minus
+    } else {
+        SyntaxKind::ErrorToken
+    };
+    Lexed { kind, end: after }
 }
 
 // A token that starts with a character of ASCII that is neither white space nor a word's.
@@ -175,8 +171,7 @@ fn read_mark(text: &[u8], start: usize) -> Lexed
     if two_at(text, start, b'/', b'*') {
         return read_multi_line_comment(text, start + 2);
     }
-    let a = text[start];
-    match a {
+    match text[start] {
         b'\'' => read_string(
             text,
             start + 1,
