@@ -538,8 +538,8 @@ fn joins(text: &[u8], j: usize, hex: bool, after: bool) -> bool
     (text[j] == b'_') & after & is_radix_digit(hex, byte_at(text, j + 1))
 }
 
-// The digits of either radix. `after`: the byte before is a digit of this run.
-fn read_radix_digits(text: &[u8], at: usize, hex: bool) -> usize
+// A run of digits of either radix. `after`: the byte before is a digit of this run.
+fn read_run(text: &[u8], at: usize, hex: bool) -> usize
     ensures { λ r. ⌜ r ≡ at + digits (radixDigit hex) false (chars (drop at (now (text .entry)))) ⌝ }
 {
     let mut j = at;
@@ -560,13 +560,23 @@ fn read_radix_digits(text: &[u8], at: usize, hex: bool) -> usize
 fn read_hex_digits(text: &[u8], at: usize) -> usize
     ensures { λ r. ⌜ r ≡ at + digits hexDigit false (chars (drop at (now (text .entry)))) ⌝ }
 {
-    read_radix_digits(text, at, true)
+    read_run(text, at, true)
 }
 
 fn read_digits(text: &[u8], at: usize) -> usize
     ensures { λ r. ⌜ r ≡ at + digits digit false (chars (drop at (now (text .entry)))) ⌝ }
 {
-    read_radix_digits(text, at, false)
+    read_run(text, at, false)
+}
+
+fn read_radix_digits(text: &[u8], at: usize, hex: bool) -> usize
+    ensures { λ r. ⌜ r ≡ at + digits (radixDigit hex) false (chars (drop at (now (text .entry)))) ⌝ }
+{
+    if hex {
+        read_hex_digits(text, at)
+    } else {
+        read_digits(text, at)
+    }
 }
 
 // The character at `at` makes a word of the number before it.
