@@ -1,8 +1,14 @@
+-- What the proofs of the readers share. A reader's own proof is in tokenizer/, under its name.
+-- Answers, and matches on a byte.
 pub mod Ends
+pub mod Matches
+-- Rules 1 and 3: runs of a class, and the classes by the code's tests.
 pub mod Runs
 pub mod Classes
+-- Rules 1 and 4: what is closed or not.
 pub mod Comments
 pub mod Bodies
+-- Rule 5.
 pub mod HereDocs
-pub mod Matches
+-- Rules 6 and 7.
 pub mod Numbers

@@ -1,3 +1,4 @@
+-- What the contracts say beside the rules: answers in the code's structs, and what a reader's helpers find.
 pub mod Ends
 pub mod Steps
 pub mod Words
