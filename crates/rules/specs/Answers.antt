@@ -76,7 +76,7 @@ stored ts number list =
 abbrev pub tooLongList : List Token
 tooLongList = token ErrorMaxQuerySizeExceeded 0 0 ∷ token EndOfStream 0 0 ∷ []
 
--- "Checked in the order 6, 1, 2, 4, 5, 7, 3." Whole listing.
+-- "Checked in the order 6, 1, 2, 4, 5, 7, 3. Nothing else is a reason to refuse: a call to which none of its reasons applies answers 0." Whole listing; 2: "not UTF-8 (listings, masked copy)".
 unfoldable pub listing : ℕ → List ℕ → List ℕ → Written
 listing mode text list =
     cond (noMode mode) (refused NoMode 0 list)
@@ -103,7 +103,7 @@ pub record Stepped : Type 0 where
 abbrev pub refusedStep : ℕ → ℕ → Stepped
 refusedStep number cursor = record { number = number; value = 0; token = token NoToken 0 0; cursor = cursor }
 
--- One token at a cursor; 0: "a step: the next cursor".
+-- One token at a cursor; 0: "a step: the next cursor". "Steps, token text, shown text and place don't test the whole text for UTF-8."
 unfoldable pub step : List ℕ → ℕ → Stepped
 step text cursor =
     cond (tooLong text) (refusedStep TooLong cursor)

@@ -36,7 +36,7 @@ startsBefore position t = ltb (t .start) position
 unfoldable pub wholeList : ℕ → List ℕ → List Token
 wholeList mode s = cond (eqb mode lean) (only leanKeeps (tokens s)) (tokens s)
 
--- "Listing up to a position: the tokens that start before it; the last may run past it."
+-- "Listing up to a position: the tokens that start before it; the last may run past it." "A position may be any number and needn't be a character edge."
 unfoldable pub listUpTo : ℕ → ℕ → List ℕ → List Token
 listUpTo mode position s =
     let ts = only (startsBefore position) (tokens s) in

@@ -86,7 +86,7 @@ tokensAfter afterDot at zero (b ∷ s) =
     placed at l ∷ tokensAfter (isDot b) (suc at) (l .size - 1) s
 tokensAfter afterDot at (suc skip) (b ∷ s) = tokensAfter (isDot b) (suc at) skip s
 
--- "Whole listing", full.
+-- "Whole listing", full. "EndOfStream is stored in no other list".
 abbrev pub tokens : List ℕ → List Token
 tokens s = tokensAfter false 0 0 s
 

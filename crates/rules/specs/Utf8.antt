@@ -93,6 +93,7 @@ validAfter skip [] = 0
 validAfter zero (b ∷ s) = elim (wellFormed (b ∷ s)) [ zero ↦ 0 | suc w ↦ suc w + validAfter w s ]
 validAfter (suc skip) (b ∷ s) = validAfter skip s
 
+-- 2: "length of the longest valid prefix that ends at a character's end"
 abbrev pub validLength : List ℕ → ℕ
 validLength s = validAfter 0 s
 
