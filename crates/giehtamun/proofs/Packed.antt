@@ -6,8 +6,8 @@ use mathlib.Core.List.{List}
 use Rattle.rules.specs.Limits.{maxQuerySize}
 use Rattle.rules.specs.Answers.{Written}
 use Rattle.rules.proofs.Bounds.{Small}
-use Rattle.lists.specs.Answers.{numberOf, valueOf, written}
-use Rattle.lists.specs.declared.listing.Answer.{Answer}
+use Rattle.rules.specs.Cases.{numberOf, valueOf, written}
+use Rattle.rules.specs.declared.answer.Answer.{Answer}
 use Rattle.giehtamun.specs.Packed.{packed, packedList}
 
 module _ (a : Answer) (list : List ℕ) (w : Written) (e : written a list ≡ w) where

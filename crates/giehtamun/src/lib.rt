@@ -1,14 +1,14 @@
 // The library as C functions. An answer is one number of 64 bits: see specs/Packed.antt.
 use lexer::tokenizer::step;
-use lists::listing::Answer;
 use lists::listing::Settings;
 use lists::listing::tokenize;
 use lists::listing::tokenize_up_to_position;
+use rules::answer::Answer;
 ghost use mathlib.Core.Path.{_≡_};
 ghost use Prim.Native.Nat.{_≤_};
 ghost use Rattle.rules.specs.Limits.{maxQuerySize};
 ghost use Rattle.rules.specs.Answers.{listing, listingUpTo, step as stepAt};
-ghost use Rattle.lists.specs.Answers.{numberOf, valueOf};
+ghost use Rattle.rules.specs.Cases.{numberOf, valueOf};
 ghost use Rattle.giehtamun.specs.Packed.{packed, packedList, packedStep};
 
 fn pack(number: u32, kind: u32, value: usize) -> u64

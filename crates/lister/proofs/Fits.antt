@@ -12,8 +12,8 @@ use Rattle.rules.specs.Limits.{tokenBytes}
 use Rattle.rules.specs.Tokens.{Token}
 use Rattle.rules.specs.Listing.{wholeList, room}
 use Rattle.rules.specs.Answers.{Done, TooLong, tooLong, noMode, Written, stored, tooLongList, listing}
-use Rattle.lists.specs.declared.listing.Answer.{Answer}
-use Rattle.lists.specs.Answers.{numberOf, valueOf, written}
+use Rattle.rules.specs.declared.answer.Answer.{Answer}
+use Rattle.rules.specs.Cases.{numberOf, valueOf, written}
 
 abbrev Fits : List ℕ → Written → Type 0
 Fits list w = w .number ≡ Done → w .value * tokenBytes ≤ length list

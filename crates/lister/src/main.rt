@@ -2,9 +2,9 @@
 use libc::STDERR_FILENO;
 use libc::STDIN_FILENO;
 use libc::STDOUT_FILENO;
-use lists::listing::Answer;
 use lists::listing::Settings;
 use lists::listing::tokenize;
+use rules::answer::Answer;
 use rules::token_bytes;
 ghost use mathlib.Core.Path.{_≡_};
 ghost use Prim.Native.Nat.{_+_, _*_, _≤_, _<_};

@@ -2,4 +2,3 @@
 pub mod Choosing
 pub mod Packing
 pub mod Storing
-pub mod Answers

@@ -2,6 +2,7 @@
 use crate::packed::put_token;
 use lexer::syntax_kind::SyntaxKind;
 use lexer::tokenizer::next_token;
+use rules::answer::Answer;
 use rules::max_query_size;
 use rules::token_bytes;
 use utf8::valid_length;
@@ -12,7 +13,7 @@ ghost use lib.ListN.{length};
 ghost use Rattle.rules.specs.Limits.{maxQuerySize, tokenBytes};
 ghost use Rattle.rules.specs.Listing.{full, lean, pack};
 ghost use Rattle.rules.specs.Answers.{TooLong, filled, stored, tooLongList, listing, listingUpTo};
-ghost use Rattle.lists.specs.Answers.{numberOf, valueOf, written};
+ghost use Rattle.rules.specs.Cases.{written};
 ghost use Rattle.lists.specs.Choices.{keeps, chosen, storedChoice};
 
 // What a listing is asked for. `tokenize` does not look at the position. Each setter hands the settings back changed, so calls chain.
@@ -56,47 +57,6 @@ impl Settings {
     {
         self.position = position;
         self
-    }
-}
-
-// What a listing answers. specs/Answers.antt has document 01's number and value of each case.
-pub enum Answer {
-    // Tokens stored.
-    Done(usize),
-    // Tokens stored: two by `tokenize`, none by `tokenize_up_to_position`.
-    TooLong(usize),
-    // Bytes of the longest valid prefix.
-    NotUtf8(usize),
-    // Tokens needed.
-    NoRoom(usize),
-    NoMode,
-}
-
-impl Answer {
-    // Document 01's number.
-    pub fn number(self) -> u32
-        ensures { λ r. ⌜ r ≡ numberOf self ⌝ }
-    {
-        match self {
-            Answer::Done(_) => 0,
-            Answer::TooLong(_) => 1,
-            Answer::NotUtf8(_) => 2,
-            Answer::NoRoom(_) => 3,
-            Answer::NoMode => 6,
-        }
-    }
-
-    // Document 01's value.
-    pub fn value(self) -> usize
-        ensures { λ r. ⌜ r ≡ valueOf self ⌝ }
-    {
-        match self {
-            Answer::Done(n) => n,
-            Answer::TooLong(n) => n,
-            Answer::NotUtf8(n) => n,
-            Answer::NoRoom(n) => n,
-            Answer::NoMode => 0,
-        }
     }
 }
 

@@ -13,8 +13,8 @@ use Rattle.rules.specs.Tokens.{Token}
 use Rattle.rules.specs.Listing.{full, wholeList, pack, room}
 use Rattle.rules.specs.Answers.{Written, Done, TooLong, NotUtf8, NoRoom, NoMode, tooLong, noMode, refused, filled, stored, tooLongList, listing}
 use Rattle.rules.proofs.Listing.{length-pack}
-use Rattle.lists.specs.declared.listing.Answer.{Answer}
-use Rattle.lists.specs.Answers.{numberOf, valueOf, written}
+use Rattle.rules.specs.declared.answer.Answer.{Answer}
+use Rattle.rules.specs.Cases.{numberOf, valueOf, written}
 
 second : (b : Bool) (x y : Written) → (x .number ≡ 0 → ⊥) → cond b x y .number ≡ 0 → cond b x y ≡ y
 second true x y h e = absurd (h e)

@@ -41,4 +41,5 @@ pub mod Edges
 pub mod Stepping
 pub mod Listing
 pub mod Bounds
+pub mod Cases
 pub mod Bench

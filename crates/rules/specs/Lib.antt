@@ -16,4 +16,5 @@ pub mod Listing
 pub mod Masking
 pub mod Places
 pub mod Answers
+pub mod Cases
 pub mod Bench

@@ -5,7 +5,7 @@ use mathlib.Core.List.{List}
 use denote.Ref.{now}
 use Rattle.rules.specs.Answers.{listing}
 use Rattle.rules.proofs.Bounds.{small-listing}
-use Rattle.lists.specs.Answers.{written}
+use Rattle.rules.specs.Cases.{written}
 use Rattle.giehtamun.proofs.Packed.{fits, is-packed}
 use Rattle.giehtamun.proofs.giehtamun_list.Statement.{statement}
 use Rattle.giehtamun.proofs.giehtamun_list.Tie as tie
