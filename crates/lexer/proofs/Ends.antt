@@ -2,9 +2,12 @@
 use Prim.Native.Nat.{ℕ, _+_}
 use mathlib.Core.Path.{_≡_, sym, ap, ap₂, _∙_}
 use native.Mathlib.Omega.{arith}
+use mathlib.Core.List.{List}
 use mathlib.Core.Bool.{Bool, cond}
+use lib.ListN.{drop}
 use Rattle.rules.specs.Lexeme.{Lexeme, is, Body, enclosed}
 use Rattle.rules.specs.Numbers.{Figures}
+use Rattle.rules.specs.Tokens.{token, tokenAt, lexeme, afterDotAt}
 use Rattle.lexer.specs.declared.tokenizer.Lexed.{Lexed}
 use Rattle.lexer.specs.declared.tokenizer.Part.{Part}
 use Rattle.lexer.specs.Ends.{endsAt, partAt}
@@ -18,3 +21,8 @@ lexed-is at {l} {kind} {n} e end p = ap {B = Lexed} (λ (m : ℕ). record { kind
 -- an opening of n bytes before a body
 pub opened-by : (at n : ℕ) (b : Body) (kind error : ℕ) → endsAt (at + n) (enclosed 0 b kind error) ≡ endsAt at (enclosed n b kind error)
 opened-by at n b kind error = ap {B = Lexed} (λ (m : ℕ). record { kind = cond (b .closed) kind error; end = m }) (omega arith)
+
+-- what `next_token` answers is the token there
+pub next-is : (s : List ℕ) (at : ℕ) (r : Lexed) → r ≡ endsAt at (lexeme (afterDotAt s at) (drop at s)) → tokenAt s at ≡ token (r .kind) at (r .end)
+unfolding tokenAt
+next-is s at r e = ap (λ (x : Lexed). token (x .kind) at (x .end)) (sym e)

@@ -17,6 +17,7 @@ use Rattle.rules.proofs.Listing.{only-yes, only-no, only-none, only-length, up-
 use Rattle.lists.specs.declared.listing.Choice.{Choice}
 use Rattle.lexer.specs.declared.tokenizer.Lexed.{Lexed}
 use Rattle.lexer.specs.Ends.{endsAt}
+use Rattle.lexer.proofs.Ends.{next-is}
 use Rattle.lists.specs.Choices.{keeps, chosen}
 
 -- Every token starts before the text's end.
@@ -78,18 +79,14 @@ module _ (c : Choice) (s : List ℕ) (i : ℕ) where
 
   -- what `next_token` answers at i
   module _ (r : Lexed) (e : r ≡ endsAt i (lexeme (afterDotAt s i) (drop i s))) (fits : c .position ≤ length s) (h : i < c .position) where
-    is-next : tokenAt s i ≡ token (r .kind) i (r .end)
-    unfolding tokenAt
-    is-next = ap (λ (x : Lexed). token (x .kind) i (x .end)) (sym e)
-
     pub next-fits : (i < r .end) × (r .end ≤ length s)
-    next-fits = let f = step-fits s i (omega arith) in let n = ap (λ (t : Token). t .end) is-next in (omega arith, omega arith)
+    next-fits = let f = step-fits s i (omega arith) in let n = ap (λ (t : Token). t .end) (next-is s i r e) in (omega arith, omega arith)
 
     step : chosen c s i ≡ only (λ t. keeps c (t .kind)) (token (r .kind) i (r .end) ∷ only (startsBefore (c .position)) (tokensFrom s (r .end)))
     unfolding chosen
     step =
         ap (only (λ t. keeps c (t .kind)))
-        (up-to-step s (c .position) i (omega arith) h ∙ ap (λ (t : Token). t ∷ only (startsBefore (c .position)) (tokensFrom s (t .end))) is-next)
+        (up-to-step s (c .position) i (omega arith) h ∙ ap (λ (t : Token). t ∷ only (startsBefore (c .position)) (tokensFrom s (t .end))) (next-is s i r e))
 
     pub chosen-keep : keeps c (r .kind) ≡ true → chosen c s i ≡ token (r .kind) i (r .end) ∷ chosen c s (r .end)
     unfolding chosen

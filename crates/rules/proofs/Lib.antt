@@ -40,6 +40,8 @@ pub mod KnownKinds
 pub mod Edges
 pub mod Stepping
 pub mod Listing
+pub mod Parts
+pub mod Places
 pub mod Bounds
 pub mod Cases
 pub mod Bench

@@ -6,11 +6,11 @@ use mathlib.Core.Path.{_≡_, refl, sym, ap, _∙_, subst}
 use mathlib.Core.Logic.{_↔_}
 use mathlib.Core.List.{List, [], _∷_}
 use mathlib.Core.Bool.{Bool, true, false, cond}
-use lib.ListN.{length, getD, List·getD-eq-default}
+use lib.ListN.{length, getD, drop, List·getD-eq-default}
 use Rattle.rules.specs.Utf8.{Char, chars, valid}
 use Rattle.rules.specs.Limits.{maskByte}
 use Rattle.rules.specs.Lexeme.{first}
-use Rattle.rules.specs.Tokens.{rule, Rule, spaces, dashes, slashStar, numeral, letters, quoted, doubleQuoted, backQuoted, curlyQuoted, curlyDoubleQuoted, dollars, others, Token, tokens}
+use Rattle.rules.specs.Tokens.{rule, Rule, spaces, dashes, slashStar, numeral, letters, quoted, doubleQuoted, backQuoted, curlyQuoted, curlyDoubleQuoted, dollars, others, Token, tokens, tokensAfter, tokensFrom, afterDotAt}
 use Rattle.rules.specs.Masking.{masked, hidden, maskTokens, hiddenIn}
 use Rattle.rules.proofs.Visible.{Fits, maskTokens-at, hiddenIn-masked, maskTokens-agree}
 use Rattle.rules.proofs.Reading.{Read, flatten, read-chars, flatten-chars, length-flatten}
@@ -74,9 +74,17 @@ valid-masked s h =
     let f : Formed (chars s) = valid-formed (chars s) (read-chars s) (ap valid (flatten-chars s) ∙ h) in
     ap valid (c .bytes) ∙ formed-valid (c .copy) (read-masks (read-chars s) (c .masks)) (formed-masks (read-chars s) (c .masks) f)
 
--- The tokens fit the text: their bytes are the text's, and what a token keeps at its front and at its back does not meet.
-pub fits : (s : List ℕ) → Fits (tokens s) s
-fits s = subst (λ (t : List ℕ). Fits (tokens t) t) (flatten-chars s) (relexed step dot-free (length (chars s)) false 0 (chars s) (omega arith) (read-chars s) .fits)
+-- The tokens from any offset on fit what follows it: their bytes are the text's, and what a token keeps at its front and at its back does not meet.
+pub fits-from : (s : List ℕ) (i : ℕ) → Fits (tokensFrom s i) (drop i s)
+unfolding tokensFrom
+fits-from s i =
+    let cs = chars (drop i s) in
+    let d = afterDotAt s i in
+    subst (λ (t : List ℕ). Fits (tokensAfter d i 0 t) t) (flatten-chars (drop i s)) (relexed step dot-free (length cs) d i cs (omega arith) (read-chars (drop i s)) .fits)
+
+fits : (s : List ℕ) → Fits (tokens s) s
+unfolding tokensFrom
+fits s = fits-from s 0
 
 -- Byte i of the copy
 pub masked-at : (s : List ℕ) (i : ℕ) → getD (masked s) i 0 ≡ cond (hidden s i) maskByte (getD s i 0)

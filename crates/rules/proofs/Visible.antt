@@ -126,7 +126,7 @@ abbrev pub Fit : ℕ → List ℕ → Type 0
 Fit k bs = front k bs + back k bs ≤ length bs
 
 module _ (k : ℕ) (bs : List ℕ) (fit : Fit k bs) where
-  mask-length : length (maskToken k bs) ≡ length bs
+  pub mask-length : length (maskToken k bs) ≡ length bs
   unfolding maskToken cut
   mask-length = cut-length bs (front k bs) (length bs - back k bs) (omega arith) (omega arith)
 

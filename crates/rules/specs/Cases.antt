@@ -1,5 +1,6 @@
 -- "Where an answer is an enum, the promises use a definition. The definition gives this paper's number and values for each of the enum's cases."
 use Prim.Native.Nat.{ℕ}
+use mathlib.Core.Path.{_≡_}
 use mathlib.Core.List.{List}
 use Rattle.rules.specs.Answers as table
 use Rattle.rules.specs.declared.answer.Answer.{Answer}
@@ -26,3 +27,7 @@ valueOf OtherLength = 0
 -- An answer, with what the lent buffer holds then.
 abbrev pub written : Answer → List ℕ → table.Written
 written answer buffer = record { number = numberOf answer; value = valueOf answer; buffer = buffer }
+
+-- An answer has this number and this value.
+abbrev pub says : Answer → ℕ → ℕ → Type 0
+says answer number value = (numberOf answer ≡ number) × (valueOf answer ≡ value)

@@ -42,12 +42,13 @@ back k bs =
     (cond (eqb k StringToken) (quoteWidth bs)
     (cond (eqb k HereDoc) (tagWidth bs) 0))
 
--- "Each hidden byte becomes 23 hex.": a token's bytes, masked.
+-- "Each hidden byte becomes 23 hex.": some bytes with those from f on, before n, hidden.
+abbrev pub hide : ℕ → ℕ → List ℕ → List ℕ
+hide f n bs = take f bs ++ (replicate (n - f) maskByte ++ drop n bs)
+
+-- A token's bytes, masked.
 unfoldable pub maskToken : ℕ → List ℕ → List ℕ
-maskToken k bs =
-    let f = front k bs in
-    let n = length bs - back k bs in
-    take f bs ++ (replicate (n - f) maskByte ++ drop n bs)
+maskToken k bs = hide (front k bs) (length bs - back k bs) bs
 
 unfoldable pub maskTokens : List Token → List ℕ → List ℕ
 maskTokens [] s = []

@@ -1,5 +1,6 @@
 // The numbers of document 01 that a later request may change, as code reads them. The definitions are in specs/Limits.antt.
 pub mod answer;
+
 ghost use mathlib.Core.Path.{_≡_};
 ghost use Rattle.rules.specs.Limits.{maxQuerySize, tokenBytes, maskByte};
 

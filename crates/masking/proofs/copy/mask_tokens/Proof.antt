@@ -1,0 +1,80 @@
+-- `masking::copy::mask_tokens` meets its contract. The invariant: up to the cursor the copy is masked. The measure is what is left of the text.
+-- Assumes nothing.
+use Prim.Native.Nat.{ℕ, _-_, _≤_, _<_}
+use native.Mathlib.Omega.{arith}
+use mathlib.Core.Path.{_≡_, sym, _∙_}
+use denote.Ref.{now}
+use lib.ListN.{length}
+use borrow.Author.Needs.{needs}
+use Rattle.masking.specs.Spans.{Span}
+use Rattle.masking.proofs.Spans.{span-length}
+use Rattle.masking.proofs.Copying.{filled-room, Copied, copied-none, copied-length, copied-all, next-span, next-apart, copied-more, copied-same}
+use Rattle.masking.proofs.copy.mask_tokens.Statement.{statement}
+use Rattle.masking.proofs.copy.mask_tokens.Tie as tie
+
+abbrev Inv-loop : tie.InvT-loop
+Inv-loop text copy₀ cursor₀ copy cursor = (cursor ≤ length text) × Copied text copy₀ copy cursor
+
+abbrev μ-loop : tie.MeasureT-loop
+μ-loop text copy₀ cursor₀ copy cursor = length text - cursor
+
+has-room : (c : tie.Start Inv-loop μ-loop) → length (now (c .args .text)) ≤ length (now (c .args .copy))
+has-room c = filled-room (now (c .args .text)) (now (c .args .copy)) (c .pre)
+
+-- the copy keeps its length
+same : (l : tie.At-loop Inv-loop μ-loop) → length (l .loop .copy) ≡ length (now (l .before .before .before .args .copy))
+same l = let c = l .before .before .before in copied-length (now (c .args .text)) (now (c .args .copy)) (has-room c) _ _ (l .loop .inv .0) (l .loop .inv .1)
+
+-- the token lies in the text, and what it keeps does not meet
+span : (c : tie.After-next-token Inv-loop μ-loop) → let l = c .before .before in Span (now (l .before .before .before .args .text)) (l .loop .cursor) (c .next-token .result .end)
+span c = let l = c .before .before in let s = l .before .before .before in
+    next-span (now (s .args .text)) (now (s .args .copy)) (has-room s) (l .loop .cursor) (omega arith) (c .next-token .result) (c .next-token .ensures)
+
+mask-token-requires : tie.Need-mask-token-requires Inv-loop μ-loop
+mask-token-requires c κs =
+    let t = c .before in
+    let n = t .before .before in
+    let l = n .before .before in
+    let s = l .before .before .before in
+    let a = next-apart (now (s .args .text)) (now (s .args .copy)) (has-room s) (l .loop .cursor) (omega arith) (n .next-token .result) (n .next-token .ensures) in
+    let k = span-length (now (s .args .text)) (l .loop .cursor) (n .next-token .result .end) (span n) in
+    (record { span = span n; hides = sym (t .before .hides .ensures) ∙ t .if1 .taken; apart = omega arith }, omega (arith, same l, has-room s))
+
+loop-again : tie.Need-loop-again Inv-loop μ-loop
+loop-again c =
+    let m = c .before .before in
+    let n = m .before .before .before .before in
+    let l = n .before .before in
+    let s = l .before .before .before in
+    (span n .1, copied-more (now (s .args .text)) (now (s .args .copy)) (has-room s) (l .loop .cursor) (omega arith) (n .next-token .result) (n .next-token .ensures) _ _ (l .loop .inv .1) (m .mask-token .ensures))
+
+loop-again-2 : tie.Need-loop-again-2 Inv-loop μ-loop
+loop-again-2 c =
+    let n = c .before .before in
+    let l = n .before .before in
+    let s = l .before .before .before in
+    let k = sym (c .before .hides .ensures) ∙ c .if1 .left in
+    (span n .1, copied-same (now (s .args .text)) (now (s .args .copy)) (has-room s) (l .loop .cursor) (omega arith) (n .next-token .result) (n .next-token .ensures) _ k (l .loop .inv .1))
+
+returns : tie.Need-returns Inv-loop μ-loop
+returns c =
+    let l = c .before in
+    let s = l .before .before .before in
+    copied-all (now (s .args .text)) (now (s .args .copy)) (has-room s) _ (l .loop .cursor) (omega arith) (l .loop .inv .1)
+
+pub mask-tokens-spec : {M : Type 1} → statement M
+mask-tokens-spec =
+    tie.close
+    (tie.spec
+    Inv-loop
+    μ-loop
+    (λ c. let s = c .before .before in (omega arith, copied-none (now (s .args .text)) (now (s .args .copy)) (has-room s) (s .pre)))
+    (λ c κs. search needs)
+    (λ c κs. search needs)
+    mask-token-requires
+    (λ c. omega (arith, span (c .before .before .before .before .before .before)))
+    loop-again
+    (λ c. omega (arith, span (c .before .before)))
+    loop-again-2
+    (λ c. same (c .before))
+    returns)

@@ -1,0 +1,52 @@
+-- `masking::places::column_of` meets its contract. The invariant: the bytes passed, with the column where they begin, are the column.
+-- The measure is what is left to pass. Assumes nothing.
+use Prim.Native.Nat.{ℕ, _+_, _-_, _≤_}
+use mathlib.Core.Path.{_≡_, ap, _∙_}
+use denote.Ref.{now}
+use lib.ListN.{length}
+use native.Mathlib.Omega.{arith}
+use borrow.Author.Needs.{needs}
+use Rattle.rules.specs.Places.{Place, placeOf}
+use Rattle.rules.proofs.Places.{place-start, next-line, same-line}
+use Rattle.masking.proofs.places.column_of.Statement.{statement}
+use Rattle.masking.proofs.places.column_of.Tie as tie
+
+abbrev Inv-loop : tie.InvT-loop
+Inv-loop text offset i₀ i = (i ≤ offset) × (placeOf text offset .column ≡ (offset - i) + placeOf text i .column)
+
+abbrev μ-loop : tie.MeasureT-loop
+μ-loop text offset i₀ i = i
+
+returns : tie.Need-returns Inv-loop μ-loop
+returns c =
+    let l = c .before .before .before in
+    omega (arith, next-line (now (l .before .args .text)) (l .loop .i - 1) (omega arith) (l .loop .i) (omega arith) (c .if1 .taken) .1)
+
+loop-again : tie.Need-loop-again Inv-loop μ-loop
+loop-again c =
+    let l = c .before .before .before in
+    (omega arith, omega (arith, same-line (now (l .before .args .text)) (l .loop .i - 1) (omega arith) (l .loop .i) (omega arith) (c .if1 .left) .1))
+
+returns-2 : tie.Need-returns-2 Inv-loop μ-loop
+returns-2 c =
+    let l = c .before in
+    let s = now (l .before .args .text) in
+    let e : l .loop .i ≡ 0 = omega arith in
+    let z = ap (λ (n : ℕ). placeOf s n .column) e ∙ ap (λ (p : Place). p .column) (place-start s) in
+    omega arith
+
+pub column-of-spec : {M : Type 1} → statement M
+column-of-spec =
+    tie.close
+    (tie.spec
+    Inv-loop
+    μ-loop
+    (λ c. (omega arith, omega arith))
+    (λ c. omega arith)
+    (λ c. omega arith)
+    (λ c. omega arith)
+    returns
+    (λ c. omega arith)
+    (λ c. omega arith)
+    loop-again
+    returns-2)
