@@ -4,7 +4,8 @@
    packed list holds GIEHTAMUN_TOKEN_BYTES bytes a token: kind, start, end, each 32 bits, low byte first. A list's room is its length
    divided by that, rounded down.
 
-   An answer is one number of 64 bits, which giehtamun_number, giehtamun_kind and giehtamun_value take apart. */
+   An answer is one number of 64 bits, which giehtamun_number, giehtamun_kind and giehtamun_value take apart. That of giehtamun_place
+   is taken apart by giehtamun_number, giehtamun_line and giehtamun_column. */
 #ifndef GIEHTAMUN_H
 #define GIEHTAMUN_H
 
@@ -25,14 +26,17 @@ extern "C" {
 #define GIEHTAMUN_FULL 0
 #define GIEHTAMUN_LEAN 1
 
-/* The numbers that come back, checked in the order 6, 1, 2, 4, 3. A refusal writes nothing, but for what giehtamun_list says of 1. */
+/* The numbers that come back, checked in the order 6, 1, 2, 4, 5, 7, 3. A refusal writes nothing, but for what giehtamun_list says of 1. */
 enum giehtamun_numbers {
-    GIEHTAMUN_DONE = 0,     /* the value is the tokens stored, or a step's next cursor */
-    GIEHTAMUN_TOO_LONG = 1, /* the text has over GIEHTAMUN_MAX_QUERY_SIZE bytes; the value is 0 */
-    GIEHTAMUN_NOT_UTF8 = 2, /* listings; the value is the length of the longest valid prefix that ends at a character's end */
-    GIEHTAMUN_NO_ROOM = 3,  /* listings; the value is the tokens needed */
-    GIEHTAMUN_BEYOND = 4,   /* the cursor is beyond the text's length; the value is 0 */
-    GIEHTAMUN_NO_MODE = 6   /* the listing mode is neither 0 nor 1; the value is 0 */
+    GIEHTAMUN_DONE = 0,        /* the value is the tokens stored, a copy's or a part's bytes, or a step's next cursor */
+    GIEHTAMUN_TOO_LONG = 1,    /* the text has over GIEHTAMUN_MAX_QUERY_SIZE bytes; the value is 0 */
+    GIEHTAMUN_NOT_UTF8 = 2,    /* listings, masked copy; the value is the length of the longest valid prefix that ends at a character's end */
+    GIEHTAMUN_NO_ROOM = 3,     /* listings, masked copy; the value is the tokens or bytes needed */
+    GIEHTAMUN_BEYOND = 4,      /* the cursor of a step or the offset of a place is beyond the text's length; the value is 0 */
+    GIEHTAMUN_NO_PART = 5,     /* token text, shown text: the start is above the end, the end is beyond the text, or one of them is on a
+                                  continuation byte (80 to BF hex); for shown text also a kind outside 1 to 48; the value is 0 */
+    GIEHTAMUN_NO_MODE = 6,     /* the listing mode is neither 0 nor 1; the value is 0 */
+    GIEHTAMUN_OTHER_LENGTH = 7 /* shown text: the copy's length is not the text's; the value is 0 */
 };
 
 enum giehtamun_kinds {
@@ -92,14 +96,30 @@ static inline uint32_t giehtamun_number(uint64_t answer) {
     return (uint32_t)(answer >> 56);
 }
 
-/* The kind in a step's answer, 0 in any other: bits 48 to 55. */
+/* The kind in a step's answer, 0 in any other: bits 48 to 55. Not for a place. */
 static inline uint32_t giehtamun_kind(uint64_t answer) {
     return (uint32_t)(answer >> 48) & 0xFF;
 }
 
-/* The value of an answer: bits 0 to 47. */
+/* The value of an answer: bits 0 to 47. Not for a place. */
 static inline uint64_t giehtamun_value(uint64_t answer) {
     return answer & 0xFFFFFFFFFFFF;
+}
+
+/* The line in a place's answer: bits 28 to 55. */
+static inline uint32_t giehtamun_line(uint64_t answer) {
+    return (uint32_t)(answer >> 28) & 0xFFFFFFF;
+}
+
+/* The column in a place's answer: bits 0 to 27. */
+static inline uint32_t giehtamun_column(uint64_t answer) {
+    return (uint32_t)answer & 0xFFFFFFF;
+}
+
+/* Whether a token of a kind may have hidden bytes: Comment, StringToken, HereDoc, and the four kinds of what is not closed. */
+static inline int giehtamun_hides(uint32_t kind) {
+    return kind == GIEHTAMUN_COMMENT || kind == GIEHTAMUN_STRING_TOKEN || kind == GIEHTAMUN_HERE_DOC ||
+           (kind >= GIEHTAMUN_ERROR_MULTILINE_COMMENT_IS_NOT_CLOSED && kind <= GIEHTAMUN_ERROR_BACK_QUOTE_IS_NOT_CLOSED);
 }
 
 /* The tokens of the whole text, into the front of `list`, whose other bytes stay as they are. Full, they cover the text without a gap.
@@ -121,6 +141,30 @@ uint64_t giehtamun_list_up_to(const uint8_t *text, size_t text_len, uint32_t mod
    class, so that a cursor inside a character is answered too.
    Answers 0, or refuses with 1 or 4, kind 0 and value 0. */
 uint64_t giehtamun_step(const uint8_t *text, size_t text_len, size_t cursor);
+
+/* The masked copy of the text, into the front of `copy`, whose other bytes stay as they are. It is the text with each hidden byte become
+   23 hex, the character #. Hidden are, in a StringToken, all bytes but the opening and the closing quote; in a HereDoc, all between its two
+   tags; in a Comment, all but what opens and what closes it; in a comment or quote that is not closed, all after what opens it.
+   The copy is as long as the text, is UTF-8 and has the same tokens. `text` and `copy` must not overlap.
+   Answers 0 and the copy's length, or refuses with 1, 2 or 3. */
+uint64_t giehtamun_mask(const uint8_t *text, size_t text_len, uint8_t *copy, size_t copy_len);
+
+/* The text of a token: the part of the text from `start` to `end`. The host takes that part itself, from text + start on.
+   An offset at the text's end is on no byte. The text is not tested for UTF-8.
+   Answers 0 and the part's length, or refuses with 1 or 5; a refused part is empty. */
+uint64_t giehtamun_token_text(const uint8_t *text, size_t text_len, size_t start, size_t end);
+
+/* What may be shown of a token of a kind: the part from `start` to `end` of the copy where giehtamun_hides(kind), and of the text otherwise.
+   The host takes that part itself, from copy + start or text + start on. `copy` should be giehtamun_mask's copy of the text: its length is
+   tested, its bytes are not read. The text is not tested for UTF-8.
+   Answers 0 and the part's length, or refuses with 1, 5 or 7; a refused part is empty. */
+uint64_t giehtamun_shown_text(const uint8_t *text, size_t text_len, const uint8_t *copy, size_t copy_len, uint32_t kind, size_t start,
+                              size_t end);
+
+/* The place of a byte offset. Its line is the number of LF bytes before the offset, its column the number of bytes between the last of these
+   (or the text's start) and the offset; so the first line and the first column are 0. The text is not tested for UTF-8.
+   Answers 0, or refuses with 1 or 4, line 0 and column 0. */
+uint64_t giehtamun_place(const uint8_t *text, size_t text_len, size_t offset);
 
 #ifdef __cplusplus
 }

@@ -17,11 +17,15 @@ _Bool probe_is_alphanumeric(u32 code);
 u64 giehtamun_list(const u8 *text, u64 len, u32 mode, u8 *list, u64 lent);
 u64 giehtamun_list_up_to(const u8 *text, u64 len, u32 mode, u64 position, u8 *list, u64 lent);
 u64 giehtamun_step(const u8 *text, u64 len, u64 cursor);
+u64 giehtamun_mask(const u8 *text, u64 len, u8 *copy, u64 lent);
+u64 giehtamun_token_text(const u8 *text, u64 len, u64 start, u64 end);
+u64 giehtamun_shown_text(const u8 *text, u64 len, const u8 *copy, u64 lent, u32 kind, u64 start, u64 end);
+u64 giehtamun_place(const u8 *text, u64 len, u64 offset);
 
 /* The first `lent` bytes of the memory are lent to the function. */
 struct head {
     u32 op, mode;
-    u64 number, len, memory_len, lent;
+    u64 number, end, len, memory_len, lent;
 };
 
 static u8 text[1100000], memory[13200000];
@@ -111,6 +115,18 @@ int main(void) {
             break;
         case 9:
             answer = giehtamun_step(text, h.len, h.number);
+            break;
+        case 10:
+            answer = giehtamun_mask(text, h.len, memory, h.lent);
+            break;
+        case 11:
+            answer = giehtamun_token_text(text, h.len, h.number, h.end);
+            break;
+        case 12:
+            answer = giehtamun_shown_text(text, h.len, memory, h.lent, h.mode, h.number, h.end);
+            break;
+        case 13:
+            answer = giehtamun_place(text, h.len, h.number);
             break;
         default:
             return 3;

@@ -14,12 +14,13 @@ include!(concat!(env!("OUT_DIR"), "/oracle.rs"));
 pub type Triple = (u32, u32, u32);
 
 /// A call: which function, its numbers, its text, and a piece of memory. The function is lent the first `lent` bytes of the memory; that
-/// the others stay as they were shows that it writes to nothing else.
+/// the others stay as they were shows that it writes to nothing else. Shown text is lent them as the copy, to read, and its kind is the mode.
 #[derive(Clone, Debug)]
 pub struct Call<'a> {
     pub op: Op,
     pub mode: u32,
     pub number: u64,
+    pub end: u64,
     pub text: &'a [u8],
     pub memory: Vec<u8>,
     pub lent: usize,
@@ -36,17 +37,36 @@ pub enum Op {
     List = 7,
     ListUpTo = 8,
     Step = 9,
+    Mask = 10,
+    TokenText = 11,
+    ShownText = 12,
+    Place = 13,
 }
 
 impl<'a> Call<'a> {
-    /// A call of a function that writes nothing; the number is its code, offset or cursor.
+    /// A call of a function that is lent no memory; the number is its code, offset or cursor.
     pub fn read(op: Op, number: u64, text: &'a [u8]) -> Self {
-        Call { op, mode: 0, number, text, memory: vec![], lent: 0 }
+        Call { op, mode: 0, number, end: 0, text, memory: vec![], lent: 0 }
     }
 
     /// A call of a listing, with bytes to write to that all differ from their neighbours; the number is its position.
     pub fn list(op: Op, mode: u32, number: u64, text: &'a [u8], lent: usize) -> Self {
-        Call { op, mode, number, text, memory: (0..lent + 13).map(|i| i as u8 ^ 0xA5).collect(), lent }
+        Call { op, mode, number, end: 0, text, memory: (0..lent + 13).map(|i| i as u8 ^ 0xA5).collect(), lent }
+    }
+
+    /// A call for the masked copy, with the same bytes to write to.
+    pub fn mask(text: &'a [u8], lent: usize) -> Self {
+        Call::list(Op::Mask, 0, 0, text, lent)
+    }
+
+    /// A call for a token's text.
+    pub fn token_text(text: &'a [u8], start: u64, end: u64) -> Self {
+        Call { end, ..Call::read(Op::TokenText, start, text) }
+    }
+
+    /// A call for a token's shown text, with a copy of some length; its bytes are those of a listing's memory.
+    pub fn shown_text(text: &'a [u8], lent: usize, kind: u32, start: u64, end: u64) -> Self {
+        Call { end, ..Call::list(Op::ShownText, kind, start, text, lent) }
     }
 }
 
@@ -67,15 +87,21 @@ pub fn ask(calls: &[Call]) -> Vec<Answer> {
 
 /// Asks, and holds each answer to what it should be; the number of calls.
 pub fn compare(calls: &[Call], wanted: impl IntoIterator<Item = Answer>) -> usize {
+    compared(calls, wanted).len()
+}
+
+/// Asks, and holds each answer to what it should be; the answers.
+pub fn compared(calls: &[Call], wanted: impl IntoIterator<Item = Answer>) -> Vec<Answer> {
     let mut wanted = wanted.into_iter();
-    for (call, got) in calls.iter().zip(ask(calls)) {
+    let answers = ask(calls);
+    for (call, got) in calls.iter().zip(&answers) {
         let want = wanted.next().expect("an answer to each call");
-        if got != want {
-            let Call { op, mode, number, text, lent, .. } = call;
+        if *got != want {
+            let Call { op, mode, number, end, text, lent, .. } = call;
             let wrong = got.memory.iter().zip(&want.memory).position(|(a, b)| a != b);
             let start = text[..text.len().min(300)].escape_ascii();
             panic!(
-                "{op:?}, mode {mode}, number {number}, {lent} bytes lent, {} bytes of text: {start}\n\
+                "{op:?}, mode {mode}, number {number}, end {end}, {lent} bytes lent, {} bytes of text: {start}\n\
                  answer {:016x}, should be {:016x}; first wrong byte: {wrong:?}",
                 text.len(),
                 got.answer,
@@ -83,7 +109,7 @@ pub fn compare(calls: &[Call], wanted: impl IntoIterator<Item = Answer>) -> usiz
             );
         }
     }
-    calls.len()
+    answers
 }
 
 /// A generator of pseudo-random numbers with a fixed seed, so that a run can be repeated.

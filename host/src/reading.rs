@@ -1,6 +1,7 @@
 //! A second reading of document 01, from its text alone: the lexical rules over any bytes, and what the C functions must answer and leave.
 //! Sentences are numbered as in docs/DECISIONS.md: 4.1 is the first sentence of rule 4.
 use crate::{Answer, Call, Op, Triple};
+use std::ops::Range;
 
 const WHITESPACE: u32 = 1;
 const COMMENT: u32 = 2;
@@ -253,4 +254,85 @@ pub fn step(text: &[u8], cursor: u64) -> u64 {
         let (kind, _, end) = token_at(text, cursor as usize);
         answer(0, kind, end as usize)
     }
+}
+
+/// "Hidden: in StringToken, all but the opening and closing quote .. Nothing else.": which bytes of a token are hidden.
+fn hidden_in(kind: u32, token: &[u8]) -> Range<usize> {
+    let length = token.len();
+    // "1 byte, or 3 for the Unicode pair"
+    let quote = if token[0].is_ascii() { 1 } else { 3 };
+    match kind {
+        STRING => quote..length - quote,
+        HERE_DOC => {
+            let tag = 2 + token[1..].iter().position(|b| *b == b'$').unwrap();
+            tag..length - tag
+        }
+        COMMENT if token.starts_with(b"--") => 2..length,
+        COMMENT => 2..length - 2,
+        COMMENT_IS_NOT_CLOSED => 2..length,
+        SINGLE_QUOTE_IS_NOT_CLOSED | DOUBLE_QUOTE_IS_NOT_CLOSED | BACK_QUOTE_IS_NOT_CLOSED => quote..length,
+        _ => 0..0,
+    }
+}
+
+/// Of each byte of a text, whether it is hidden in one of the text's tokens.
+pub fn hidden(text: &[u8], tokens: &[Triple]) -> Vec<bool> {
+    let mut hidden = vec![false; text.len()];
+    for (kind, start, end) in tokens {
+        let token = *start as usize..*end as usize;
+        hidden[token.clone()][hidden_in(*kind, &text[token])].fill(true);
+    }
+    hidden
+}
+
+/// "Each hidden byte becomes 23 hex. The copy is as long as the text."
+fn masked(text: &[u8], tokens: &[Triple]) -> Vec<u8> {
+    text.iter().zip(hidden(text, tokens)).map(|(byte, hidden)| if hidden { 0x23 } else { *byte }).collect()
+}
+
+/// What a call for the masked copy must give, where `tokens` makes the text's full list.
+pub fn mask(call: &Call, tokens: impl FnOnce() -> Vec<Triple>) -> Answer {
+    let length = call.text.len();
+    let refused = |number, value| Answer { answer: answer(number, 0, value), memory: call.memory.clone() };
+    if length > 1_000_000 {
+        refused(1, 0)
+    } else if let Err(e) = std::str::from_utf8(call.text) {
+        refused(2, e.valid_up_to())
+    } else if call.lent < length {
+        refused(3, length)
+    } else {
+        let mut memory = masked(call.text, &tokens());
+        memory.extend(&call.memory[length..]);
+        Answer { answer: answer(0, 0, length), memory }
+    }
+}
+
+/// What a call for a token's text or shown text must answer.
+pub fn part(call: &Call) -> u64 {
+    let (text, start, end) = (call.text, call.number, call.end);
+    let is_continuation = |at: u64| text.get(at as usize).is_some_and(|byte| (0x80..=0xBF).contains(byte));
+    let no_kind = call.op == Op::ShownText && !(1..=48).contains(&call.mode);
+    if text.len() > 1_000_000 {
+        answer(1, 0, 0)
+    } else if start > end || end > text.len() as u64 || is_continuation(start) || is_continuation(end) || no_kind {
+        answer(5, 0, 0)
+    } else if call.op == Op::ShownText && call.lent != text.len() {
+        answer(7, 0, 0)
+    } else {
+        answer(0, 0, (end - start) as usize)
+    }
+}
+
+/// What a place must answer: the number in bits 56 to 63, the line in bits 28 to 55, the column in bits 0 to 27.
+pub fn place(text: &[u8], offset: u64) -> u64 {
+    if text.len() > 1_000_000 {
+        return answer(1, 0, 0);
+    }
+    if offset > text.len() as u64 {
+        return answer(4, 0, 0);
+    }
+    let before = &text[..offset as usize];
+    let line = before.iter().filter(|byte| **byte == b'\n').count();
+    let column = before.iter().rev().take_while(|byte| **byte != b'\n').count();
+    (line as u64) << 28 | column as u64
 }

@@ -8,11 +8,23 @@ pub const ALPHABET: [char; 41] = [
     '-', '/', '*', '=', '<', '>', '!', '|', '@', ':', '\n', ' ', '\u{A0}', 'é', 'ש', '\u{661}', '\u{2212}', '𝒳', '😀', '#',
 ];
 
+/// A few characters, for longer texts: a here-document that holds something has five at least.
+pub const OF_HERE_DOCS: [char; 4] = ['$', 'x', '#', '\''];
+
+/// The same for comments.
+pub const OF_COMMENTS: [char; 5] = ['/', '*', '-', '\n', 'a'];
+
 /// Every text of some length, in characters of the alphabet, a part of them at a time.
 pub fn every(length: u32) -> impl Iterator<Item = Vec<String>> {
+    every_of(&ALPHABET, length)
+}
+
+/// The same in other characters. The first character is the lowest digit of a text's number among them.
+pub fn every_of(characters: &[char], length: u32) -> impl Iterator<Item = Vec<String>> + '_ {
     const PART: usize = 1 << 11;
-    let count = ALPHABET.len().pow(length);
-    let text = move |i: usize| (0..length).map(|k| ALPHABET[i / ALPHABET.len().pow(k) % ALPHABET.len()]).collect();
+    let base = characters.len();
+    let count = base.pow(length);
+    let text = move |i: usize| (0..length).map(|k| characters[i / base.pow(k) % base]).collect();
     (0..count).step_by(PART).map(move |from| (from..count.min(from + PART)).map(text).collect())
 }
 

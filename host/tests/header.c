@@ -5,7 +5,11 @@ static int is(uint64_t answer, uint32_t number, uint32_t kind, uint64_t value) {
     return giehtamun_number(answer) == number && giehtamun_kind(answer) == kind && giehtamun_value(answer) == value;
 }
 
-int main(void) {
+static int is_place(uint64_t answer, uint32_t number, uint32_t line, uint32_t column) {
+    return giehtamun_number(answer) == number && giehtamun_line(answer) == line && giehtamun_column(answer) == column;
+}
+
+static int lists(void) {
     static const uint8_t text[] = {'a', ' ', 0xD7, 0xA9};
     static uint8_t list[3 * GIEHTAMUN_TOKEN_BYTES], too_long[GIEHTAMUN_MAX_QUERY_SIZE + 1];
     if (!is(giehtamun_list(text, sizeof text, GIEHTAMUN_FULL, list, sizeof list), GIEHTAMUN_DONE, 0, 3))
@@ -29,4 +33,50 @@ int main(void) {
     if (!is(giehtamun_step(too_long, sizeof too_long, 0), GIEHTAMUN_TOO_LONG, GIEHTAMUN_NO_TOKEN, 0))
         return 10;
     return 0;
+}
+
+static int parts(void) {
+    static const uint8_t text[] = {'a', '\n', '\'', 0xD7, 0xA9, '\''}, masked[] = {'a', '\n', '\'', '#', '#', '\'', 0};
+    static uint8_t copy[sizeof text + 1];
+    size_t i;
+    if (!is(giehtamun_mask(text, sizeof text, copy, sizeof text - 1), GIEHTAMUN_NO_ROOM, 0, 6) || copy[0] != 0)
+        return 11;
+    if (!is(giehtamun_mask(text, sizeof text, copy, sizeof copy), GIEHTAMUN_DONE, 0, 6))
+        return 12;
+    for (i = 0; i < sizeof copy; i++)
+        if (copy[i] != masked[i])
+            return 13;
+    if (!is(giehtamun_token_text(text, sizeof text, 2, 6), GIEHTAMUN_DONE, 0, 4))
+        return 14;
+    if (!is(giehtamun_token_text(text, sizeof text, 2, 4), GIEHTAMUN_NO_PART, 0, 0))
+        return 15;
+    if (!is(giehtamun_shown_text(text, sizeof text, copy, sizeof text, GIEHTAMUN_STRING_TOKEN, 2, 6), GIEHTAMUN_DONE, 0, 4))
+        return 16;
+    if (!is(giehtamun_shown_text(text, sizeof text, copy, sizeof copy, GIEHTAMUN_STRING_TOKEN, 2, 6), GIEHTAMUN_OTHER_LENGTH, 0, 0))
+        return 17;
+    if (!is(giehtamun_shown_text(text, sizeof text, copy, sizeof copy, GIEHTAMUN_NO_TOKEN, 2, 6), GIEHTAMUN_NO_PART, 0, 0))
+        return 18;
+    if (!is_place(giehtamun_place(text, sizeof text, 5), GIEHTAMUN_DONE, 1, 3))
+        return 19;
+    if (!is_place(giehtamun_place(text, sizeof text, 7), GIEHTAMUN_BEYOND, 0, 0))
+        return 20;
+    return 0;
+}
+
+/* The hiding kinds are 2, 5, 7 and 40 to 43. */
+static int hiding_kinds(void) {
+    uint32_t kind;
+    for (kind = 0; kind <= 300; kind++)
+        if (giehtamun_hides(kind) != (kind == 2 || kind == 5 || kind == 7 || (kind >= 40 && kind <= 43)))
+            return 21;
+    return 0;
+}
+
+int main(void) {
+    int wrong = lists();
+    if (wrong == 0)
+        wrong = parts();
+    if (wrong == 0)
+        wrong = hiding_kinds();
+    return wrong;
 }

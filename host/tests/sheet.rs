@@ -46,6 +46,9 @@ const LISTS: [(Op, u32, u64, &[Triple]); 4] = [
     (Op::ListUpTo, 0, 2, &[(4, 0, 1), (1, 1, 2)]),
 ];
 
+/// A text and its masked copy.
+const MASKED: [&str; 2] = ["$xxx$ a $$abc$$", "$xxx$ a $$###$$"];
+
 const TOO_LONG: [Triple; 2] = [(48, 0, 0), (39, 0, 0)];
 
 /// A listing's number and value, and the tokens that it stores.
@@ -78,6 +81,17 @@ fn the_cases_by_the_c_functions() {
 }
 
 #[test]
+fn the_masked_case_by_the_c_function() {
+    let [text, copy] = MASKED.map(str::as_bytes);
+    for lent in [15, 16] {
+        let call = Call::mask(text, lent);
+        let memory = [copy, &call.memory[15..]].concat();
+        compare(&[call], [Answer { answer: reading::answer(0, 0, 15), memory }]);
+    }
+    lists(Call::mask(text, 14), 3, 15, &[]);
+}
+
+#[test]
 fn room_for_a_list() {
     let (text, tokens) = TO_RUN[13];
     for op in [Op::List, Op::ListUpTo] {
@@ -89,7 +103,7 @@ fn room_for_a_list() {
 #[test]
 fn text_that_is_not_utf8() {
     for (text, valid) in [(b"\x61\xC0\x80", 1), (b"\xED\xA0\x80", 0)] {
-        for op in [Op::List, Op::ListUpTo] {
+        for op in [Op::List, Op::ListUpTo, Op::Mask] {
             lists(Call::list(op, 0, u64::MAX, text, 36), 2, valid, &[]);
         }
     }
@@ -118,8 +132,9 @@ mod by_the_rust {
             assert_eq!(asked(&Call::list(op, mode, position, LISTS_OF.as_bytes(), 0)), tokens, "{op:?}, mode {mode}, {position}");
         }
         // The masked case: the copy has the text's tokens, and would not with a letter for the mask.
-        assert_eq!(full("$xxx$ a $$###$$"), full("$xxx$ a $$abc$$"));
-        assert_ne!(full("$xxx$ a $$xxx$$"), full("$xxx$ a $$abc$$"));
+        let [text, copy] = MASKED;
+        assert_eq!(full(copy), full(text));
+        assert_ne!(full(&copy.replace('#', "x")), full(text));
     }
 
     #[test]

@@ -2,16 +2,28 @@
 use Prim.Native.Nat.{ℕ, _+_, _*_, _^_}
 use mathlib.Core.Path.{_≡_}
 use mathlib.Core.List.{List}
-use Rattle.rules.specs.Answers.{Written, Stepped}
+use Rattle.rules.specs.Answers.{Written, Stepped, Part, Placed}
 
 -- The number in bits 56 to 63, a kind in bits 48 to 55, the value in bits 0 to 47.
 abbrev pub packed : ℕ → ℕ → ℕ → ℕ
 packed number kind value = number * 2 ^ 56 + kind * 2 ^ 48 + value
 
--- A listing's answer, and what its list holds afterwards.
-abbrev pub packedList : ℕ → List ℕ → Written → Type 0
-packedList answer list w = (answer ≡ packed (w .number) 0 (w .value)) × (list ≡ w .buffer)
+-- The answer of a call that writes, and what the lent buffer holds afterwards.
+abbrev pub packedWritten : ℕ → List ℕ → Written → Type 0
+packedWritten answer buffer w = (answer ≡ packed (w .number) 0 (w .value)) × (buffer ≡ w .buffer)
 
 -- A step's answer; its value is the token's end, the next cursor.
 abbrev pub packedStep : Stepped → ℕ
 packedStep s = packed (s .number) (s .token .kind) (s .value)
+
+-- A part's answer.
+abbrev pub packedPart : Part → ℕ
+packedPart p = packed (p .number) 0 (p .value)
+
+-- The number in bits 56 to 63, the line in bits 28 to 55, the column in bits 0 to 27.
+abbrev pub packedLine : ℕ → ℕ → ℕ → ℕ
+packedLine number line column = number * 2 ^ 56 + line * 2 ^ 28 + column
+
+-- A place's answer. Its value is the offset, which the caller has.
+abbrev pub packedPlace : Placed → ℕ
+packedPlace p = packedLine (p .number) (p .place .line) (p .place .column)

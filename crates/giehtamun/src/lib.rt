@@ -3,13 +3,17 @@ use lexer::tokenizer::step;
 use lists::listing::Settings;
 use lists::listing::tokenize;
 use lists::listing::tokenize_up_to_position;
+use masking::copy::mask;
+use masking::parts::shown_text_answer;
+use masking::parts::token_text_answer;
+use masking::places::place;
 use rules::answer::Answer;
 ghost use mathlib.Core.Path.{_≡_};
 ghost use Prim.Native.Nat.{_≤_};
 ghost use Rattle.rules.specs.Limits.{maxQuerySize};
-ghost use Rattle.rules.specs.Answers.{listing, listingUpTo, step as stepAt};
+ghost use Rattle.rules.specs.Answers.{listing, listingUpTo, step as stepAt, tokenText, shownText, maskedCopy, placeAt};
 ghost use Rattle.rules.specs.Cases.{numberOf, valueOf};
-ghost use Rattle.giehtamun.specs.Packed.{packed, packedList, packedStep};
+ghost use Rattle.giehtamun.specs.Packed.{packed, packedWritten, packedStep, packedPart, packedLine, packedPlace};
 
 fn pack(number: u32, kind: u32, value: usize) -> u64
     requires { ⌜ (number ≤ 255) × (kind ≤ 255) × (value ≤ maxQuerySize) ⌝ }
@@ -25,9 +29,16 @@ fn pack_answer(answer: Answer) -> u64
     pack(answer.number(), 0, answer.value())
 }
 
+fn pack_place(number: u32, line: usize, column: usize) -> u64
+    requires { ⌜ (number ≤ 255) × (line ≤ maxQuerySize) × (column ≤ maxQuerySize) ⌝ }
+    ensures { λ r. ⌜ r ≡ packedLine number line column ⌝ }
+{
+    (number as u64) * 0x100_0000_0000_0000 + (line as u64) * 0x1000_0000 + (column as u64)
+}
+
 #[no_mangle]
 pub extern "C" fn giehtamun_list(text: &[u8], mode: u32, list: &mut [u8]) -> u64
-    ensures { λ r. ⌜ packedList r (now (list .exit)) (listing mode (now (text .entry)) (now (list .entry))) ⌝ }
+    ensures { λ r. ⌜ packedWritten r (now (list .exit)) (listing mode (now (text .entry)) (now (list .entry))) ⌝ }
 {
     pack_answer(tokenize(Settings::new().set_mode(mode), text, list))
 }
@@ -39,7 +50,7 @@ pub extern "C" fn giehtamun_list_up_to(
     position: usize,
     list: &mut [u8],
 ) -> u64
-    ensures { λ r. ⌜ packedList r (now (list .exit)) (listingUpTo mode position (now (text .entry)) (now (list .entry))) ⌝ }
+    ensures { λ r. ⌜ packedWritten r (now (list .exit)) (listingUpTo mode position (now (text .entry)) (now (list .entry))) ⌝ }
 {
     pack_answer(tokenize_up_to_position(
         Settings::new().set_mode(mode).set_position(position),
@@ -54,4 +65,39 @@ pub extern "C" fn giehtamun_step(text: &[u8], cursor: usize) -> u64
 {
     let s = step(text, cursor);
     pack(s.number, s.token.kind, s.value)
+}
+
+#[no_mangle]
+pub extern "C" fn giehtamun_mask(text: &[u8], copy: &mut [u8]) -> u64
+    ensures { λ r. ⌜ packedWritten r (now (copy .exit)) (maskedCopy (now (text .entry)) (now (copy .entry))) ⌝ }
+{
+    pack_answer(mask(text, copy))
+}
+
+#[no_mangle]
+pub extern "C" fn giehtamun_token_text(text: &[u8], start: usize, end: usize) -> u64
+    ensures { λ r. ⌜ r ≡ packedPart (tokenText (now (text .entry)) start end) ⌝ }
+{
+    pack_answer(token_text_answer(text, start, end))
+}
+
+#[no_mangle]
+pub extern "C" fn giehtamun_shown_text(
+    text: &[u8],
+    copy: &[u8],
+    kind: u32,
+    start: usize,
+    end: usize,
+) -> u64
+    ensures { λ r. ⌜ r ≡ packedPart (shownText (now (text .entry)) (now (copy .entry)) kind start end) ⌝ }
+{
+    pack_answer(shown_text_answer(text, copy, kind, start, end))
+}
+
+#[no_mangle]
+pub extern "C" fn giehtamun_place(text: &[u8], offset: usize) -> u64
+    ensures { λ r. ⌜ r ≡ packedPlace (placeAt (now (text .entry)) offset) ⌝ }
+{
+    let p = place(text, offset);
+    pack_place(p.number, p.line, p.column)
 }

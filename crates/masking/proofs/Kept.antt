@@ -35,7 +35,7 @@ module _ (k : ℕ) (bs : List ℕ) where
   quotes h c m d =
       ⊎-elim
       (λ a. ⊎-elim (λ b. ⊎-elim (λ x. absurd (c (eqb-true x))) (λ x. or-left (eqb k StringToken) _ x) (or-cases (eqb k Comment) (eqb k StringToken) b))
-        (λ b. absurd (d (eqb-true b))) (or-cases (eqb k Comment || eqb k StringToken) (eqb k HereDoc) a))
+      (λ b. absurd (d (eqb-true b))) (or-cases (eqb k Comment || eqb k StringToken) (eqb k HereDoc) a))
       (λ w. or-right (eqb k StringToken) _ (unclosed (within-true ErrorMultilineCommentIsNotClosed ErrorBackQuoteIsNotClosed k w) (decLt ErrorMultilineCommentIsNotClosed k)))
       (or-cases (eqb k Comment || eqb k StringToken || eqb k HereDoc) (within ErrorMultilineCommentIsNotClosed ErrorBackQuoteIsNotClosed k) h)
     where

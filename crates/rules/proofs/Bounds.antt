@@ -78,7 +78,7 @@ unfolding maskedCopy
 small-copy text copy =
     cond-ind SmallW (tooLong text) _ _ (λ e. (omega arith, omega arith))
     (λ e. let l = ltb-false maxQuerySize (length text) e in
-      cond-ind SmallW (not (valid text)) _ _ (λ f. (omega arith, omega (arith, valid-most text)))
+    cond-ind SmallW (not (valid text)) _ _ (λ f. (omega arith, omega (arith, valid-most text)))
     (λ f. cond-ind SmallW (ltb (length copy) (length text)) _ _ (λ g. (omega arith, l)) (λ g. (omega arith, l))))
 
 abbrev SmallP : Part → Type 0
@@ -115,10 +115,10 @@ small-place text offset =
     cond-ind SmallPlaced (tooLong text) _ _ (λ e. (omega arith, omega arith, omega arith))
     (λ e. cond-ind SmallPlaced (beyond text offset) _ _ (λ f. (omega arith, omega arith, omega arith))
     (λ f.
-      let l = ltb-false maxQuerySize (length text) e in
-      let m = ltb-false (length text) offset f in
-      let p = place-most text offset m in
-      (omega arith, omega arith, omega arith)))
+    let l = ltb-false maxQuerySize (length text) e in
+    let m = ltb-false (length text) offset f in
+    let p = place-most text offset m in
+    (omega arith, omega arith, omega arith)))
 
 pub small-step : (s : List ℕ) (i : ℕ) → Small (step s i .number) (step s i .value) × (step s i .token .kind ≤ ErrorMaxQuerySizeExceeded)
 unfolding tokenAt

@@ -54,7 +54,7 @@ shown-sound text copy kind start end =
     (λ e. cond-ind S (noPart text start end || not (someKind kind)) _ _ (λ f. sound-refused s start end NoPart (omega arith))
     (λ f. cond-ind S (not (eqb (length copy) (length text))) _ _ (λ g. sound-refused s start end OtherLength (omega arith))
     (λ g. let i = part-inside text start end (or-none (noPart text start end) (not (someKind kind)) f .0) in
-      sound-part s start end (i .0) (subst (λ (n : ℕ). end ≤ n) (sym (as-long (eqb-true _ _ (not-false _ g)))) (i .1)))))
+    sound-part s start end (i .0) (subst (λ (n : ℕ). end ≤ n) (sym (as-long (eqb-true _ _ (not-false _ g)))) (i .1)))))
   where
     s : List ℕ
     s = source text copy kind
