@@ -1,0 +1,171 @@
+-- A contract determines what comes back: any two results of one call that it allows are equal, and so is what each lent buffer holds afterwards.
+-- `ended` and `Learnt` are the toolchain's own for each function: how its parameters end, and what its contract tells a caller.
+-- Every public function of the libraries is here; `read_case` of the program `replay` is not, since its contract leaves a choice.
+-- Assumes nothing.
+use mathlib.Core.Path.{_≡_, refl, sym, ap, _∙_}
+use denote.Ref.{now}
+use Rattle.rules.proofs as rules
+use Rattle.rules.proofs.Cases.{one-case, one-answer}
+use Rattle.utf8.proofs as utf8
+use Rattle.classes.proofs as classes
+use Rattle.probe.proofs as probe
+use Rattle.lexer.proofs.tokenizer as tokenizer
+use Rattle.lists.proofs.listing as listing
+use Rattle.lists.proofs.packed as packed
+use Rattle.lists.specs.declared.listing.Settings.{Settings}
+use Rattle.masking.proofs.copy as copy
+use Rattle.masking.proofs.parts as parts
+use Rattle.masking.proofs.places as places
+use Rattle.giehtamun.proofs as giehtamun
+use Rattle.promises.specs.Determined.{Determined, DeterminedAs}
+
+same : {A : Type 0} {x y z : A} → x ≡ z → y ≡ z → x ≡ y
+same p q = p ∙ sym q
+
+both : {A B : Type 0} {x y z : A} {u v w : B} → (x ≡ z) × (u ≡ w) → (y ≡ z) × (v ≡ w) → (x ≡ y) × (u ≡ v)
+both p q = (same (p .0) (q .0), same (p .1) (q .1))
+
+-- One lent buffer, at its place among the parameters.
+lent : {A B C : Type 0} {x y : A} {u v : B} (place : B → C) → (x ≡ y) × (u ≡ v) → (x ≡ y) × (place u ≡ place v)
+lent place e = (e .0, ap place (e .1))
+
+one-settings : (r s : Settings) → (r .mode ≡ s .mode) × (r .position ≡ s .position) → r ≡ s
+one-settings r s e i = record { mode = e .0 i; position = e .1 i }
+
+pub max-query-size : Determined rules.max_query_size.ended rules.max_query_size.Reads.Learnt
+max-query-size κs a r s u v p q = (same p q, refl)
+
+pub token-bytes : Determined rules.token_bytes.ended rules.token_bytes.Reads.Learnt
+token-bytes κs a r s u v p q = (same p q, refl)
+
+pub mask-byte : Determined rules.mask_byte.ended rules.mask_byte.Reads.Learnt
+mask-byte κs a r s u v p q = (same p q, refl)
+
+pub answer-number : Determined rules.answer.Answer.number.ended rules.answer.Answer.number.Reads.Learnt
+answer-number κs a r s u v p q = (same p q, refl)
+
+pub answer-value : Determined rules.answer.Answer.value.ended rules.answer.Answer.value.Reads.Learnt
+answer-value κs a r s u v p q = (same p q, refl)
+
+pub byte-at : Determined utf8.byte_at.ended utf8.byte_at.Reads.Learnt
+byte-at κs a r s u v p q = (same p q, refl)
+
+pub unit-at : Determined utf8.unit_at.ended utf8.unit_at.Reads.Learnt
+unit-at κs a r s u v p q = (same p q, refl)
+
+pub unit-code : Determined utf8.unit_code.ended utf8.unit_code.Reads.Learnt
+unit-code κs a r s u v p q = (same p q, refl)
+
+pub unit-len : Determined utf8.unit_len.ended utf8.unit_len.Reads.Learnt
+unit-len κs a r s u v p q = (same p q, refl)
+
+pub valid-length : Determined utf8.valid_length.ended utf8.valid_length.Reads.Learnt
+valid-length κs a r s u v p q = (same p q, refl)
+
+pub is-white-space : Determined classes.is_white_space.ended classes.is_white_space.Reads.Learnt
+is-white-space κs a r s u v p q = (same p q, refl)
+
+pub is-alphabetic : Determined classes.is_alphabetic.ended classes.is_alphabetic.Reads.Learnt
+is-alphabetic κs a r s u v p q = (same p q, refl)
+
+pub is-alphanumeric : Determined classes.is_alphanumeric.ended classes.is_alphanumeric.Reads.Learnt
+is-alphanumeric κs a r s u v p q = (same p q, refl)
+
+pub alphabetic-table : Determined classes.alphabetic_table.ended classes.alphabetic_table.Reads.Learnt
+alphabetic-table κs a r s u v p q = (same p q, refl)
+
+pub numeric-table : Determined classes.numeric_table.ended classes.numeric_table.Reads.Learnt
+numeric-table κs a r s u v p q = (same p q, refl)
+
+pub is-alphabetic-in : Determined classes.is_alphabetic_in.ended classes.is_alphabetic_in.Reads.Learnt
+is-alphabetic-in κs a r s u v p q = (same p q, refl)
+
+pub is-alphanumeric-in : Determined classes.is_alphanumeric_in.ended classes.is_alphanumeric_in.Reads.Learnt
+is-alphanumeric-in κs a r s u v p q = (same p q, refl)
+
+pub probe-valid-length : Determined probe.probe_valid_length.ended probe.probe_valid_length.Reads.Learnt
+probe-valid-length κs a r s u v p q = (same p q, refl)
+
+pub probe-code-at : Determined probe.probe_code_at.ended probe.probe_code_at.Reads.Learnt
+probe-code-at κs a r s u v p q = (same p q, refl)
+
+pub probe-length-at : Determined probe.probe_length_at.ended probe.probe_length_at.Reads.Learnt
+probe-length-at κs a r s u v p q = (same p q, refl)
+
+pub probe-is-white-space : Determined probe.probe_is_white_space.ended probe.probe_is_white_space.Reads.Learnt
+probe-is-white-space κs a r s u v p q = (same p q, refl)
+
+pub probe-is-alphabetic : Determined probe.probe_is_alphabetic.ended probe.probe_is_alphabetic.Reads.Learnt
+probe-is-alphabetic κs a r s u v p q = (same p q, refl)
+
+pub probe-is-alphanumeric : Determined probe.probe_is_alphanumeric.ended probe.probe_is_alphanumeric.Reads.Learnt
+probe-is-alphanumeric κs a r s u v p q = (same p q, refl)
+
+pub next-token : Determined tokenizer.next_token.ended tokenizer.next_token.Reads.Learnt
+next-token κs a r s u v p q = (same p q, refl)
+
+pub step : Determined tokenizer.step.ended tokenizer.step.Reads.Learnt
+step κs a r s u v p q = (same p q, refl)
+
+pub new-settings : Determined listing.Settings.new.ended listing.Settings.new.Reads.Learnt
+new-settings κs a r s u v p q = (one-settings r s (both p q), refl)
+
+pub set-mode : Determined listing.Settings.set_mode.ended listing.Settings.set_mode.Reads.Learnt
+set-mode κs a r s u v p q = (one-settings r s (both p q), refl)
+
+pub set-include-whitespace : Determined listing.Settings.set_include_whitespace.ended listing.Settings.set_include_whitespace.Reads.Learnt
+set-include-whitespace κs a r s u v p q = (one-settings r s (both p q), refl)
+
+pub set-position : Determined listing.Settings.set_position.ended listing.Settings.set_position.Reads.Learnt
+set-position κs a r s u v p q = (one-settings r s (both p q), refl)
+
+pub tokenize : Determined listing.tokenize.ended listing.tokenize.Reads.Learnt
+tokenize κs a r s u v p q = lent (λ l. (tt, (tt, (l, tt)))) (one-answer r s _ _ _ p q)
+
+pub tokenize-up-to-position : Determined listing.tokenize_up_to_position.ended listing.tokenize_up_to_position.Reads.Learnt
+tokenize-up-to-position κs a r s u v p q = lent (λ l. (tt, (tt, (l, tt)))) (one-answer r s _ _ _ p q)
+
+pub put-token : Determined packed.put_token.ended packed.put_token.Reads.Learnt
+put-token κs a r s u v p q = lent (λ l. (l, u .1)) (both p q)
+
+pub mask : Determined copy.mask.ended copy.mask.Reads.Learnt
+mask κs a r s u v p q = lent (λ l. (tt, (l, tt))) (one-answer r s _ _ _ p q)
+
+pub hides : Determined parts.hides.ended parts.hides.Reads.Learnt
+hides κs a r s u v p q = (same p q, refl)
+
+pub token-text-answer : Determined parts.token_text_answer.ended parts.token_text_answer.Reads.Learnt
+token-text-answer κs a r s u v p q = (one-case r s (same (p .0) (q .0)) (same (p .1) (q .1)), refl)
+
+pub token-text : DeterminedAs parts.token_text.ended parts.token_text.Reads.Learnt (λ κs r. now r)
+token-text κs a r s u v p q = (same p q, refl)
+
+pub shown-text-answer : Determined parts.shown_text_answer.ended parts.shown_text_answer.Reads.Learnt
+shown-text-answer κs a r s u v p q = (one-case r s (same (p .0) (q .0)) (same (p .1) (q .1)), refl)
+
+pub shown-text : DeterminedAs parts.shown_text.ended parts.shown_text.Reads.Learnt (λ κs r. now r)
+shown-text κs a r s u v p q = (same p q, refl)
+
+pub place : Determined places.place.ended places.place.Reads.Learnt
+place κs a r s u v p q = (same p q, refl)
+
+pub giehtamun-list : Determined giehtamun.giehtamun_list.ended giehtamun.giehtamun_list.Reads.Learnt
+giehtamun-list κs a r s u v p q = lent (λ l. (tt, (tt, (l, tt)))) (both p q)
+
+pub giehtamun-list-up-to : Determined giehtamun.giehtamun_list_up_to.ended giehtamun.giehtamun_list_up_to.Reads.Learnt
+giehtamun-list-up-to κs a r s u v p q = lent (λ l. (tt, (tt, (tt, (l, tt))))) (both p q)
+
+pub giehtamun-step : Determined giehtamun.giehtamun_step.ended giehtamun.giehtamun_step.Reads.Learnt
+giehtamun-step κs a r s u v p q = (same p q, refl)
+
+pub giehtamun-mask : Determined giehtamun.giehtamun_mask.ended giehtamun.giehtamun_mask.Reads.Learnt
+giehtamun-mask κs a r s u v p q = lent (λ l. (tt, (l, tt))) (both p q)
+
+pub giehtamun-token-text : Determined giehtamun.giehtamun_token_text.ended giehtamun.giehtamun_token_text.Reads.Learnt
+giehtamun-token-text κs a r s u v p q = (same p q, refl)
+
+pub giehtamun-shown-text : Determined giehtamun.giehtamun_shown_text.ended giehtamun.giehtamun_shown_text.Reads.Learnt
+giehtamun-shown-text κs a r s u v p q = (same p q, refl)
+
+pub giehtamun-place : Determined giehtamun.giehtamun_place.ended giehtamun.giehtamun_place.Reads.Learnt
+giehtamun-place κs a r s u v p q = (same p q, refl)
