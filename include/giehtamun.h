@@ -1,4 +1,5 @@
-/* Giehtamun: ClickHouse's SQL tokenizer as C functions. Each function is proved to answer what its comment says.
+/* Giehtamun: ClickHouse's SQL tokenizer as C functions. Each function is proved to answer what its comment says; the inline helpers are
+   plain C, and tested. Buffers that are lent to one call must not overlap one another where one of them is written.
 
    A text is any bytes. A token has a kind, a start and an end, both byte offsets into the text; it ends before the byte at its end. A
    packed list holds GIEHTAMUN_TOKEN_BYTES bytes a token: kind, start, end, each 32 bits, low byte first. A list's room is its length
@@ -145,7 +146,7 @@ uint64_t giehtamun_step(const uint8_t *text, size_t text_len, size_t cursor);
 /* The masked copy of the text, into the front of `copy`, whose other bytes stay as they are. It is the text with each hidden byte become
    23 hex, the character #. Hidden are, in a StringToken, all bytes but the opening and the closing quote; in a HereDoc, all between its two
    tags; in a Comment, all but what opens and what closes it; in a comment or quote that is not closed, all after what opens it.
-   The copy is as long as the text, is UTF-8 and has the same tokens. `text` and `copy` must not overlap.
+   The copy is as long as the text, is UTF-8 and has the same tokens.
    Answers 0 and the copy's length, or refuses with 1, 2 or 3. */
 uint64_t giehtamun_mask(const uint8_t *text, size_t text_len, uint8_t *copy, size_t copy_len);
 
