@@ -1,13 +1,14 @@
 -- What a reader answers, from what is known of the lexeme or of the part. Assumes nothing.
-use Prim.Native.Nat.{ℕ, _+_}
+use Prim.Native.Nat.{ℕ, _+_, _≤_, _<_}
 use mathlib.Core.Path.{_≡_, sym, ap, ap₂, _∙_}
 use native.Mathlib.Omega.{arith}
 use mathlib.Core.List.{List}
 use mathlib.Core.Bool.{Bool, cond}
-use lib.ListN.{drop}
+use lib.ListN.{length, drop}
 use Rattle.rules.specs.Lexeme.{Lexeme, is, Body, enclosed}
 use Rattle.rules.specs.Numbers.{Figures}
-use Rattle.rules.specs.Tokens.{token, tokenAt, lexeme, afterDotAt}
+use Rattle.rules.specs.Tokens.{Token, token, tokenAt, lexeme, afterDotAt}
+use Rattle.rules.proofs.Edges.{step-fits}
 use Rattle.lexer.specs.declared.tokenizer.Lexed.{Lexed}
 use Rattle.lexer.specs.declared.tokenizer.Part.{Part}
 use Rattle.lexer.specs.Ends.{endsAt, partAt}
@@ -26,3 +27,7 @@ opened-by at n b kind error = ap {B = Lexed} (λ (m : ℕ). record { kind = cond
 pub next-is : (s : List ℕ) (at : ℕ) (r : Lexed) → r ≡ endsAt at (lexeme (afterDotAt s at) (drop at s)) → tokenAt s at ≡ token (r .kind) at (r .end)
 unfolding tokenAt
 next-is s at r e = ap (λ (x : Lexed). token (x .kind) at (x .end)) (sym e)
+
+-- it has at least one byte, and lies in the text
+pub next-lies : (s : List ℕ) (at : ℕ) (r : Lexed) → at < length s → r ≡ endsAt at (lexeme (afterDotAt s at) (drop at s)) → (at < r .end) × (r .end ≤ length s)
+next-lies s at r h e = let f = step-fits s at h in let n = ap (λ (t : Token). t .end) (next-is s at r e) in (omega arith, omega arith)

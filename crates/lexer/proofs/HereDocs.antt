@@ -24,11 +24,14 @@ module _ (s : List ℕ) (start e : ℕ) (t : TagEnd s (start + 1) e) where
   lone : hereDoc (chars (drop (start + 1) s)) ≡ none → record { kind = DollarSign; end = start + 1 } ≡ answer
   lone h = sym (ap (λ (o : Option ℕ). endsAt start (dollarLexeme o)) h)
 
-  pub no-tag : (getD s e 0 ≡ dollar → ⊥) → record { kind = DollarSign; end = start + 1 } ≡ answer
-  no-tag n =
+  pub not-closed : (getD s e 0 ≡ dollar → ⊥) → hereDoc (chars (drop (start + 1) s)) ≡ none
+  not-closed n =
       let f = t .from in
       let q : e ≡ start + 1 + (e - (start + 1)) = omega arith in
-      lone (here-none (chars (drop (start + 1) s)) (tags-none s (e - (start + 1)) (start + 1) (λ k u l. t .tags k (omega arith) l) (rw q at (t .over)) (rw q at n)))
+      here-none (chars (drop (start + 1) s)) (tags-none s (e - (start + 1)) (start + 1) (λ k u l. t .tags k (omega arith) l) (rw q at (t .over)) (rw q at n))
+
+  pub no-tag : (getD s e 0 ≡ dollar → ⊥) → record { kind = DollarSign; end = start + 1 } ≡ answer
+  no-tag n = lone (not-closed n)
 
   module _ (a : getD s start 0 ≡ dollar) (z : getD s e 0 ≡ dollar) where
     pub tag-closed : e + 1 ≤ length s

@@ -705,7 +705,7 @@ fn read_unicode_quoted(
     }
 }
 
-fn is_tag_byte(b: u8) -> bool
+pub fn is_tag_byte(b: u8) -> bool
     ensures { λ r. ⌜ r ≡ tagByte b ⌝ }
 {
     is_word_byte(b, false)

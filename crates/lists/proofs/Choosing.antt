@@ -12,12 +12,12 @@ use borrow.Author.Tests.{lt-ltb}
 use Rattle.rules.specs.Kinds.{Whitespace}
 use Rattle.rules.specs.Tokens.{Token, token, tokens, tokensFrom, tokenAt, lexeme, afterDotAt}
 use Rattle.rules.specs.Listing.{lean, only, leanKeeps, leanUpToKeeps, startsBefore, wholeList, listUpTo}
-use Rattle.rules.proofs.Edges.{Tiles, tiles, tiles-le, tiles-count, from-start, step-fits}
+use Rattle.rules.proofs.Edges.{Tiles, tiles, tiles-le, tiles-count, from-start}
 use Rattle.rules.proofs.Listing.{only-yes, only-no, only-none, only-length, up-to-stop, up-to-step}
 use Rattle.lists.specs.declared.listing.Choice.{Choice}
 use Rattle.lexer.specs.declared.tokenizer.Lexed.{Lexed}
 use Rattle.lexer.specs.Ends.{endsAt}
-use Rattle.lexer.proofs.Ends.{next-is}
+use Rattle.lexer.proofs.Ends.{next-is, next-lies}
 use Rattle.lists.specs.Choices.{keeps, chosen}
 
 -- Every token starts before the text's end.
@@ -80,7 +80,7 @@ module _ (c : Choice) (s : List ℕ) (i : ℕ) where
   -- what `next_token` answers at i
   module _ (r : Lexed) (e : r ≡ endsAt i (lexeme (afterDotAt s i) (drop i s))) (fits : c .position ≤ length s) (h : i < c .position) where
     pub next-fits : (i < r .end) × (r .end ≤ length s)
-    next-fits = let f = step-fits s i (omega arith) in let n = ap (λ (t : Token). t .end) (next-is s i r e) in (omega arith, omega arith)
+    next-fits = next-lies s i r (omega arith) e
 
     step : chosen c s i ≡ only (λ t. keeps c (t .kind)) (token (r .kind) i (r .end) ∷ only (startsBefore (c .position)) (tokensFrom s (r .end)))
     unfolding chosen

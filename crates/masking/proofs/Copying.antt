@@ -12,10 +12,10 @@ use Rattle.rules.specs.Masking.{front, back, hide, maskToken, maskTokens, maske
 use Rattle.rules.specs.Answers.{filled}
 use Rattle.rules.proofs.Visible.{Fit, Fits, mask-length}
 use Rattle.rules.proofs.Masked.{length-masked, fits-from}
-use Rattle.rules.proofs.Edges.{from-start, from-step, from-end, step-fits}
+use Rattle.rules.proofs.Edges.{from-start, from-step, from-end}
 use Rattle.lexer.specs.declared.tokenizer.Lexed.{Lexed}
 use Rattle.lexer.specs.Ends.{endsAt}
-use Rattle.lexer.proofs.Ends.{next-is}
+use Rattle.lexer.proofs.Ends.{next-is, next-lies}
 use Rattle.masking.specs.Spans.{bytesOf, Span}
 use Rattle.masking.proofs.Spans.{span-length}
 use Rattle.masking.proofs.Kept.{keeps-all}
@@ -74,7 +74,7 @@ module _ (s copy₀ : List ℕ) (room : length s ≤ length copy₀) where
     bs = bytesOf s i (r .end)
 
     pub next-span : Span s i (r .end)
-    next-span = let f = step-fits s i h in let n = ap (λ (t : Token). t .end) (next-is s i r e) in (omega arith, omega arith)
+    next-span = next-lies s i r h e
 
     listed : tokensFrom s i ≡ token (r .kind) i (r .end) ∷ tokensFrom s (r .end)
     listed = from-step s i h ∙ ap (λ (t : Token). t ∷ tokensFrom s (t .end)) (next-is s i r e)

@@ -1,7 +1,7 @@
 // The masked copy: the text with each hidden byte replaced, in lent bytes. It has the text's tokens.
 use crate::parts::hides;
+use ahead::next_token;
 use lexer::syntax_kind::SyntaxKind;
-use lexer::tokenizer::next_token;
 use rules::answer::Answer;
 use rules::mask_byte;
 use rules::max_query_size;
@@ -13,6 +13,7 @@ ghost use Prim.Native.Nat.{_+_, _-_, _≤_, _<_};
 ghost use lib.ListN.{length, drop};
 ghost use Rattle.rules.specs.Kinds.{hidingKind};
 ghost use Rattle.rules.specs.Masking.{quoteWidth, tagWidth, front, back, hide, masked};
+ghost use Rattle.rules.specs.Limits.{maxQuerySize};
 ghost use Rattle.rules.specs.Answers.{filled, maskedCopy};
 ghost use Rattle.rules.specs.Cases.{written};
 ghost use Rattle.masking.specs.Spans.{bytesOf, Span, Hiding};
@@ -112,14 +113,19 @@ fn copy_text(text: &[u8], copy: &mut [u8])
 
 // Masks the tokens of a text in a copy that begins with it.
 fn mask_tokens(text: &[u8], copy: &mut [u8])
-    requires { ⌜ now copy ≡ filled (now text) (now copy) ⌝ }
+    requires { ⌜ (length (now text) ≤ maxQuerySize) × (now copy ≡ filled (now text) (now copy)) ⌝ }
     ensures { λ r. ⌜ now (copy .exit) ≡ filled (masked (now (text .entry))) (now (copy .entry)) ⌝ }
 {
+    let mut words = [0u64; 64];
+    let mut until = 0;
+    let mut vain = 0;
     let mut cursor = 0;
     while cursor < text.len() {
         let start = cursor;
-        let token = next_token(text, start);
+        let token = next_token(text, start, until, vain, &mut words);
         cursor = token.end;
+        until = token.until;
+        vain = token.vain;
         if hides(token.kind) {
             mask_token(text, copy, token.kind, start, cursor);
         }

@@ -3,7 +3,7 @@ use mathlib.Core.Path.{_≡_, refl, sym, ap, _∙_}
 use mathlib.Core.Bool.{true, false}
 use denote.Ref.{now}
 use borrow.Author.Needs.{needs}
-use borrow.Author.Tests.{lt-ltb, le-ltb, eq-eqb, ne-eqb}
+use borrow.Author.Tests.{lt-ltb, le-ltb, ltb-false, eq-eqb, ne-eqb}
 use Rattle.rules.specs.Utf8.{valid}
 use Rattle.rules.specs.Limits.{maxQuerySize}
 use Rattle.rules.specs.Masking.{masked}
@@ -40,7 +40,7 @@ mask-tokens-requires c κs =
     let t = c .before .before .before in
     let a = t .before .before .before .before .before .before .before .before .before .args in
     let e = t .copy-text .ensures in
-    e ∙ sym (ap (filled (now (a .text))) e ∙ filled-over (now (a .text)) (now (a .text)) (now (a .copy)) refl)
+    (ltb-false maxQuerySize _ (short (t .before .before .before .before .before)), e ∙ sym (ap (filled (now (a .text))) e ∙ filled-over (now (a .text)) (now (a .text)) (now (a .copy)) refl))
 
 returns-4 : tie.Need-returns-4
 unfolding maskedCopy

@@ -1,60 +1,78 @@
 -- `masking::copy::mask_tokens` meets its contract. The invariant: up to the cursor the copy is masked. The measure is what is left of the text.
 -- Assumes nothing.
-use Prim.Native.Nat.{ℕ, _-_, _≤_, _<_}
+use Prim.Native.Nat.{ℕ, _+_, _-_, _≤_}
 use native.Mathlib.Omega.{arith}
 use mathlib.Core.Path.{_≡_, sym, _∙_}
 use denote.Ref.{now}
 use lib.ListN.{length}
 use borrow.Author.Needs.{needs}
-use Rattle.masking.specs.Spans.{Span}
+use Rattle.rules.specs.Masking.{front, back}
+use Rattle.lexer.specs.declared.tokenizer.Lexed.{Lexed}
+use Rattle.ahead.specs.Marks.{Ready}
+use Rattle.ahead.proofs.Bits.{ready-none}
+use Rattle.masking.specs.Spans.{bytesOf, Span}
 use Rattle.masking.proofs.Spans.{span-length}
 use Rattle.masking.proofs.Copying.{filled-room, Copied, copied-none, copied-length, copied-all, next-span, next-apart, copied-more, copied-same}
 use Rattle.masking.proofs.copy.mask_tokens.Statement.{statement}
 use Rattle.masking.proofs.copy.mask_tokens.Tie as tie
 
 abbrev Inv-loop : tie.InvT-loop
-Inv-loop text copy₀ cursor₀ copy cursor = (cursor ≤ length text) × Copied text copy₀ copy cursor
+Inv-loop text copy₀ words₀ until₀ vain₀ cursor₀ copy words until vain cursor = (cursor ≤ length text) × Copied text copy₀ copy cursor × Ready text cursor until vain words
 
 abbrev μ-loop : tie.MeasureT-loop
-μ-loop text copy₀ cursor₀ copy cursor = length text - cursor
+μ-loop text copy₀ words₀ until₀ vain₀ cursor₀ copy words until vain cursor = length text - cursor
 
 has-room : (c : tie.Start Inv-loop μ-loop) → length (now (c .args .text)) ≤ length (now (c .args .copy))
-has-room c = filled-room (now (c .args .text)) (now (c .args .copy)) (c .pre)
+has-room c = filled-room (now (c .args .text)) (now (c .args .copy)) (c .pre .1)
 
 -- the copy keeps its length
 same : (l : tie.At-loop Inv-loop μ-loop) → length (l .loop .copy) ≡ length (now (l .before .before .before .args .copy))
 same l = let c = l .before .before .before in copied-length (now (c .args .text)) (now (c .args .copy)) (has-room c) _ _ (l .loop .inv .0) (l .loop .inv .1)
 
--- the token lies in the text, and what it keeps does not meet
-span : (c : tie.After-next-token Inv-loop μ-loop) → let l = c .before .before in Span (now (l .before .before .before .args .text)) (l .loop .cursor) (c .next-token .result .end)
-span c = let l = c .before .before in let s = l .before .before .before in
-    next-span (now (s .args .text)) (now (s .args .copy)) (has-room s) (l .loop .cursor) (omega arith) (c .next-token .result) (c .next-token .ensures)
+module _ (c : tie.After-next-token Inv-loop μ-loop) where
+  abbrev l : tie.At-loop Inv-loop μ-loop
+  l = c .before .before .before
+
+  abbrev s : tie.Start Inv-loop μ-loop
+  s = l .before .before .before
+
+  abbrev r : Lexed
+  r = record { kind = c .next-token .result .kind; end = c .next-token .result .end }
+
+  -- the token lies in the text
+  span : Span (now (s .args .text)) (l .loop .cursor) (r .end)
+  span = next-span (now (s .args .text)) (now (s .args .copy)) (has-room s) (l .loop .cursor) (omega arith) r (c .next-token .ensures .0)
+
+  -- and what it keeps does not meet
+  apart : let bs = bytesOf (now (s .args .text)) (l .loop .cursor) (r .end) in front (r .kind) bs + back (r .kind) bs ≤ r .end - l .loop .cursor
+  apart =
+      let a = next-apart (now (s .args .text)) (now (s .args .copy)) (has-room s) (l .loop .cursor) (omega arith) r (c .next-token .ensures .0) in
+      let k = span-length (now (s .args .text)) (l .loop .cursor) (r .end) span in
+      omega arith
 
 mask-token-requires : tie.Need-mask-token-requires Inv-loop μ-loop
 mask-token-requires c κs =
     let t = c .before in
-    let n = t .before .before in
-    let l = n .before .before in
-    let s = l .before .before .before in
-    let a = next-apart (now (s .args .text)) (now (s .args .copy)) (has-room s) (l .loop .cursor) (omega arith) (n .next-token .result) (n .next-token .ensures) in
-    let k = span-length (now (s .args .text)) (l .loop .cursor) (n .next-token .result .end) (span n) in
-    (record { span = span n; hides = sym (t .before .hides .ensures) ∙ t .if1 .taken; apart = omega arith }, omega (arith, same l, has-room s))
+    let n = t .before .before .before in
+    (record { span = span n; hides = sym (t .before .hides .ensures) ∙ t .if1 .taken; apart = apart n }, omega (arith, same (l n), has-room (s n)))
 
 loop-again : tie.Need-loop-again Inv-loop μ-loop
 loop-again c =
     let m = c .before .before in
-    let n = m .before .before .before .before in
-    let l = n .before .before in
-    let s = l .before .before .before in
-    (span n .1, copied-more (now (s .args .text)) (now (s .args .copy)) (has-room s) (l .loop .cursor) (omega arith) (n .next-token .result) (n .next-token .ensures) _ _ (l .loop .inv .1) (m .mask-token .ensures))
+    let n = m .before .before .before .before .before in (
+      span n .1,
+      copied-more (now (s n .args .text)) (now (s n .args .copy)) (has-room (s n)) (l n .loop .cursor) (omega arith) (r n) (n .next-token .ensures .0) _ _ (l n .loop .inv .1) (m .mask-token .ensures),
+      n .next-token .ensures .1,
+    )
 
 loop-again-2 : tie.Need-loop-again-2 Inv-loop μ-loop
 loop-again-2 c =
-    let n = c .before .before in
-    let l = n .before .before in
-    let s = l .before .before .before in
-    let k = sym (c .before .hides .ensures) ∙ c .if1 .left in
-    (span n .1, copied-same (now (s .args .text)) (now (s .args .copy)) (has-room s) (l .loop .cursor) (omega arith) (n .next-token .result) (n .next-token .ensures) _ k (l .loop .inv .1))
+    let n = c .before .before .before in
+    let k = sym (c .before .hides .ensures) ∙ c .if1 .left in (
+      span n .1,
+      copied-same (now (s n .args .text)) (now (s n .args .copy)) (has-room (s n)) (l n .loop .cursor) (omega arith) (r n) (n .next-token .ensures .0) _ k (l n .loop .inv .1),
+      n .next-token .ensures .1,
+    )
 
 returns : tie.Need-returns Inv-loop μ-loop
 returns c =
@@ -68,13 +86,14 @@ mask-tokens-spec =
     (tie.spec
     Inv-loop
     μ-loop
-    (λ c. let s = c .before .before in (omega arith, copied-none (now (s .args .text)) (now (s .args .copy)) (has-room s) (s .pre)))
-    (λ c κs. search needs)
+    (λ c. let s = c .before .before in (omega arith, copied-none (now (s .args .text)) (now (s .args .copy)) (has-room s) (s .pre .1), ready-none (now (s .args .text))))
+    (λ c. search needs)
+    (λ c κs. let l = c .before .before in (l .before .before .before .pre .0, omega arith, l .loop .inv .2))
     (λ c κs. search needs)
     mask-token-requires
-    (λ c. omega (arith, span (c .before .before .before .before .before .before)))
+    (λ c. omega (arith, span (c .before .before .before .before .before .before .before)))
     loop-again
-    (λ c. omega (arith, span (c .before .before)))
+    (λ c. omega (arith, span (c .before .before .before)))
     loop-again-2
     (λ c. same (c .before))
     returns)

@@ -1,0 +1,48 @@
+-- Which `$` are marked as beginning no here-document.
+use Prim.Native.Nat.{ℕ, _+_, _*_, _-_, _/_, _%_, _^_, _≤_, _<_}
+use mathlib.Core.Path.{_≡_}
+use mathlib.Core.List.{List}
+use mathlib.Core.Bool.{Bool, true, false, cond}
+use mathlib.Core.Option.{none}
+use lib.Dec.{leb, ltb, eqb}
+use lib.ListN.{length, getD, drop}
+use Rattle.rules.specs.Utf8.{chars}
+use Rattle.rules.specs.Characters.{dollar}
+use Rattle.rules.specs.Limits.{maxQuerySize}
+use Rattle.rules.specs.Dollars.{hereDoc}
+
+-- A `$` at an offset begins no here-document.
+abbrev pub Lone : List ℕ → ℕ → Type 0
+Lone s at = getD s at 0 ≡ dollar → hereDoc (chars (drop (at + 1) s)) ≡ none
+
+abbrev pub bit : ℕ → ℕ → Bool
+bit word k = eqb (word / 2 ^ k % 2) 1
+
+-- A word of bits marks none wrongly among the 64 from an offset on.
+abbrev pub LoneWord : List ℕ → ℕ → ℕ → Type 0
+LoneWord s at word = (k : ℕ) → bit word k ≡ true → Lone s (at + k)
+
+-- The words of a window.
+abbrev pub windowWords : ℕ
+windowWords = 64
+
+-- Its first n words mark none wrongly.
+abbrev pub LoneWords : List ℕ → ℕ → List ℕ → ℕ → Type 0
+LoneWords s at words n = (m : ℕ) → m < n → LoneWord s (at + m * 64) (getD words m 0)
+
+abbrev pub LoneUntil : List ℕ → ℕ → ℕ → Type 0
+LoneUntil s from until = (at : ℕ) → from ≤ at → at < until → Lone s at
+
+-- An offset is marked: it lies before `until`, or its bit is set in the window from there on.
+abbrev pub marked : ℕ → List ℕ → ℕ → Bool
+marked until words at = cond (ltb at until) true (cond (leb (windowWords * 64) (at - until)) false (bit (getD words ((at - until) / 64) 0) ((at - until) % 64)))
+
+-- None is marked wrongly, from an offset on.
+abbrev pub Marked : List ℕ → ℕ → ℕ → List ℕ → Type 0
+Marked s from until words = (at : ℕ) → from ≤ at → marked until words at ≡ true → Lone s at
+
+-- What goes from one call to the next: none is marked wrongly from here on, and few bytes were searched in vain.
+pub record Ready (s : List ℕ) (from until vain : ℕ) (words : List ℕ) : Type 0 where
+  pub size : length words ≡ windowWords
+  pub short : vain ≤ maxQuerySize
+  pub right : Marked s from until words
