@@ -10,9 +10,8 @@ use lib.Dec.{leb, ltb, eqb}
 use lib.ListN.{length, getD, set, replicate, length-replicate}
 use lib.Seq.{getD-set-same, getD-set-other}
 use borrow.Author.Tests.{ltb-true, ltb-false, leb-false}
-use Rattle.rules.specs.Limits.{maxQuerySize}
 use Rattle.rules.proofs.Tests.{clash, eqb-true}
-use Rattle.ahead.specs.Marks.{Lone, bit, LoneWord, windowWords, LoneWords, LoneUntil, marked, Marked, Ready}
+use Rattle.ahead.specs.Marks.{Lone, bit, LoneWord, windowWords, LoneWords, LoneUntil, marked, Marked, patience, Ready}
 
 -- no bit of 0 is set
 pub bit-none : (k : ℕ) → bit 0 k ≡ false
@@ -93,5 +92,5 @@ ready-none s = record { size = length-replicate {A = ℕ} windowWords 0; short =
     zeros (suc n) zero = refl
     zeros (suc n) (suc m) = zeros n m
 
-pub ready-later : (s : List ℕ) (from from′ until vain vain′ : ℕ) (words : List ℕ) → from ≤ from′ → vain′ ≤ maxQuerySize → Ready s from until vain words → Ready s from′ until vain′ words
+pub ready-later : (s : List ℕ) (from from′ until vain vain′ : ℕ) (words : List ℕ) → from ≤ from′ → vain′ ≤ patience → Ready s from until vain words → Ready s from′ until vain′ words
 ready-later s from from′ until vain vain′ words h l r = record { size = r .size; short = l; right = λ at k e. r .right at (omega arith) e }

@@ -8,7 +8,6 @@ use lib.Dec.{leb, ltb, eqb}
 use lib.ListN.{length, getD, drop}
 use Rattle.rules.specs.Utf8.{chars}
 use Rattle.rules.specs.Characters.{dollar}
-use Rattle.rules.specs.Limits.{maxQuerySize}
 use Rattle.rules.specs.Dollars.{hereDoc}
 
 -- A `$` at an offset begins no here-document.
@@ -41,8 +40,12 @@ marked until words at = cond (ltb at until) true (cond (leb (windowWords * 64) (
 abbrev pub Marked : List ℕ → ℕ → ℕ → List ℕ → Type 0
 Marked s from until words = (at : ℕ) → from ≤ at → marked until words at ≡ true → Lone s at
 
--- What goes from one call to the next: none is marked wrongly from here on, and few bytes were searched in vain.
+-- After so many bytes that were searched in vain it pays to look ahead.
+abbrev pub patience : ℕ
+patience = 1000000
+
+-- What goes from one token to the next: none is marked wrongly from here on, and not too many bytes were searched in vain.
 pub record Ready (s : List ℕ) (from until vain : ℕ) (words : List ℕ) : Type 0 where
   pub size : length words ≡ windowWords
-  pub short : vain ≤ maxQuerySize
+  pub short : vain ≤ patience
   pub right : Marked s from until words

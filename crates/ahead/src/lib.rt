@@ -190,8 +190,9 @@ fn fill_words(text: &[u8], at: usize, from: usize, tree: &[u16], last: &[u32], w
     }
 }
 
-// Looks ahead: marks what it can from an offset on, and says where the window of the words begins. It takes 631 KB of stack.
-fn look(text: &[u8], from: usize, words: &mut [u64]) -> usize
+// Looks ahead: marks what it can from an offset on, and says where the window of the words begins. It takes 631 KB of stack, and so is called by the
+// loops themselves: called once, by the function below, the compiler would make it a part of that one, whose every call would then touch as much.
+pub fn look(text: &[u8], from: usize, words: &mut [u64]) -> usize
     requires { ⌜ (length (now text) ≤ maxQuerySize) × (from ≤ length (now text)) × (length (now words) ≡ windowWords) ⌝ }
     ensures { λ r. ⌜ Marked (now (text .entry)) from r (now (words .exit)) ⌝ }
 {
@@ -246,46 +247,34 @@ fn in_vain(text: &[u8], kind: u32, end: usize) -> usize
     text.len() - end
 }
 
-// A token, and what goes on to the next call: where the window begins, and how many bytes were searched in vain since it was made.
+// After so many bytes that were searched in vain it pays to look ahead.
+pub const PATIENCE: usize = 1_000_000;
+
+// A token, and how many bytes were searched in vain up to its end.
 pub struct Next {
     pub kind: u32,
     pub end: usize,
-    pub until: usize,
     pub vain: usize,
 }
 
-// The token at `start`, as `lexer::tokenizer::next_token` has it. `until`, `vain` and `words` are what the call before gave, and at first 0, 0 and zeros.
-pub fn next_token(text: &[u8], start: usize, until: usize, vain: usize, words: &mut [u64]) -> Next
+// The token at `start`, as `lexer::tokenizer::next_token` has it. `until` and `words` are what the last look gave, and at first 0 and zeros.
+pub fn next_token(text: &[u8], start: usize, until: usize, vain: usize, words: &[u64]) -> Next
     requires { ⌜ (length (now text) ≤ maxQuerySize) × (start < length (now text)) × Ready (now text) start until vain (now words) ⌝ }
-    ensures { λ r. ⌜ (let s = now (text .entry) in (record { kind = r .kind; end = r .end } ≡ endsAt start (lexeme (afterDotAt s start) (drop start s))) × Ready s (r .end) (r .until) (r .vain) (now (words .exit))) ⌝ }
+    ensures { λ r. ⌜ (let s = now (text .entry) in (record { kind = r .kind; end = r .end } ≡ endsAt start (lexeme (afterDotAt s start) (drop start s))) × (r .vain ≤ vain + length s)) ⌝ }
 {
     if byte_at(text, start) == b'$' {
         if is_marked(until, words, start) {
             return Next {
                 kind: SyntaxKind::DollarSign,
                 end: start + 1,
-                until,
                 vain,
             };
         }
     }
     let token = tokenizer::next_token(text, start);
-    let kind = token.kind;
-    let end = token.end;
-    let searched = vain + in_vain(text, kind, end);
-    if searched < rules::max_query_size() {
-        return Next {
-            kind,
-            end,
-            until,
-            vain: searched,
-        };
-    }
-    let looked = look(text, end, words);
     Next {
-        kind,
-        end,
-        until: looked,
-        vain: 0,
+        kind: token.kind,
+        end: token.end,
+        vain: vain + in_vain(text, token.kind, token.end),
     }
 }

@@ -1,7 +1,9 @@
 // The listings: all tokens of a text, or those that start before a position, as a packed list in lent bytes.
 use crate::packed::put_token;
+use ahead::PATIENCE;
+use ahead::look;
+use ahead::next_token;
 use lexer::syntax_kind::SyntaxKind;
-use lexer::tokenizer::next_token;
 use rules::answer::Answer;
 use rules::max_query_size;
 use rules::token_bytes;
@@ -78,14 +80,22 @@ impl Choice {
 
 // The list's length.
 fn count(text: &[u8], choice: Choice) -> usize
-    requires { ⌜ choice .position ≤ length (now text) ⌝ }
+    requires { ⌜ (length (now text) ≤ maxQuerySize) × (choice .position ≤ length (now text)) ⌝ }
     ensures { λ r. ⌜ r ≡ length (chosen choice (now (text .entry)) 0) ⌝ }
 {
+    let mut words = [0u64; 64];
+    let mut until = 0;
+    let mut vain = 0;
     let mut n = 0;
     let mut cursor = 0;
     while cursor < choice.position {
-        let token = next_token(text, cursor);
+        let token = next_token(text, cursor, until, vain, &words);
         cursor = token.end;
+        vain = token.vain;
+        if vain >= PATIENCE {
+            until = look(text, cursor, &mut words);
+            vain = 0;
+        }
         if choice.keeps(token.kind) {
             n += 1;
         }
@@ -95,7 +105,7 @@ fn count(text: &[u8], choice: Choice) -> usize
 
 // The list's length, or more where it fits all the same: a token has at least one byte, so with room for a token a byte nothing is counted.
 fn needed(text: &[u8], choice: Choice, room: usize) -> usize
-    requires { ⌜ choice .position ≤ length (now text) ⌝ }
+    requires { ⌜ (length (now text) ≤ maxQuerySize) × (choice .position ≤ length (now text)) ⌝ }
     ensures { λ r. ⌜ (let n = length (chosen choice (now (text .entry)) 0) in (n ≤ r) × (room < r → r ≡ n)) ⌝ }
 {
     let most = text.len();
@@ -110,12 +120,20 @@ fn fill(text: &[u8], choice: Choice, list: &mut [u8]) -> usize
     requires { ⌜ (length (now text) ≤ maxQuerySize) × (choice .position ≤ length (now text)) × (length (chosen choice (now text) 0) * tokenBytes ≤ length (now list)) ⌝ }
     ensures { λ r. ⌜ (let ts = chosen choice (now (text .entry)) 0 in (r ≡ length ts) × (now (list .exit) ≡ filled (pack ts) (now (list .entry)))) ⌝ }
 {
+    let mut words = [0u64; 64];
+    let mut until = 0;
+    let mut vain = 0;
     let mut at = 0;
     let mut cursor = 0;
     while cursor < choice.position {
         let start = cursor;
-        let token = next_token(text, start);
+        let token = next_token(text, start, until, vain, &words);
         cursor = token.end;
+        vain = token.vain;
+        if vain >= PATIENCE {
+            until = look(text, cursor, &mut words);
+            vain = 0;
+        }
         if choice.keeps(token.kind) {
             at = put_token(list, at, token.kind, start as u32, cursor as u32);
         }

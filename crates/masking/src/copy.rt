@@ -1,5 +1,7 @@
 // The masked copy: the text with each hidden byte replaced, in lent bytes. It has the text's tokens.
 use crate::parts::hides;
+use ahead::PATIENCE;
+use ahead::look;
 use ahead::next_token;
 use lexer::syntax_kind::SyntaxKind;
 use rules::answer::Answer;
@@ -122,10 +124,13 @@ fn mask_tokens(text: &[u8], copy: &mut [u8])
     let mut cursor = 0;
     while cursor < text.len() {
         let start = cursor;
-        let token = next_token(text, start, until, vain, &mut words);
+        let token = next_token(text, start, until, vain, &words);
         cursor = token.end;
-        until = token.until;
         vain = token.vain;
+        if vain >= PATIENCE {
+            until = look(text, cursor, &mut words);
+            vain = 0;
+        }
         if hides(token.kind) {
             mask_token(text, copy, token.kind, start, cursor);
         }

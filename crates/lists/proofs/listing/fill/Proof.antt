@@ -3,11 +3,16 @@
 use Prim.Native.Nat.{_-_, _≤_, _<_}
 use mathlib.Core.Path.{sym, _∙_, subst}
 use mathlib.Core.List.{_∷_}
+use mathlib.Core.Logic.{⊎-elim}
 use denote.Ref.{now}
 use lib.ListN.{length}
+use native.Mathlib.Nat.{le-of-lt}
 use native.Mathlib.Omega.{arith}
 use borrow.Author.Needs.{needs}
 use Rattle.rules.specs.Tokens.{token}
+use Rattle.lexer.specs.declared.tokenizer.Lexed.{Lexed}
+use Rattle.ahead.specs.Marks.{Ready}
+use Rattle.ahead.proofs.Bits.{ready-none, ready-later}
 use Rattle.lists.specs.Choices.{chosen}
 use Rattle.lists.proofs.Packing.{Filled, filled-none, filled-room, filled-more, filled-all}
 use Rattle.lists.proofs.Choosing.{chosen-stop, next-fits, chosen-keep, chosen-drop}
@@ -15,50 +20,63 @@ use Rattle.lists.proofs.listing.fill.Statement.{statement}
 use Rattle.lists.proofs.listing.fill.Tie as tie
 
 abbrev Inv-loop : tie.InvT-loop
-Inv-loop text choice list₀ at₀ cursor₀ list at cursor = (cursor ≤ length text) × Filled (chosen choice text 0) list₀ list at (chosen choice text cursor)
+Inv-loop text choice list₀ words₀ until₀ vain₀ at₀ cursor₀ list words until vain at cursor =
+    (cursor ≤ length text) × Filled (chosen choice text 0) list₀ list at (chosen choice text cursor) × Ready text cursor until vain words
 
 abbrev μ-loop : tie.MeasureT-loop
-μ-loop text choice list₀ at₀ cursor₀ list at cursor = length text - cursor
+μ-loop text choice list₀ words₀ until₀ vain₀ at₀ cursor₀ list words until vain at cursor = length text - cursor
 
--- a turn moves the cursor on, and not past the end
-moves : (c : tie.After-keeps Inv-loop μ-loop) → let r = c .before .next-token .result in let l = c .before .before .before .before in
-    (l .loop .cursor < r .end) × (r .end ≤ length (now (l .before .before .before .args .text)))
-moves c =
-    let s = c .before .before .before .before .before .before .before in
-    next-fits (s .args .choice) _ _ _ (c .before .next-token .ensures) (s .pre .1) (c .before .before .if1 .taken)
+module _ (t : tie.After-next-token Inv-loop μ-loop) where
+  abbrev l : tie.At-loop Inv-loop μ-loop
+  l = t .before .before .before .before
+
+  abbrev s : tie.Start Inv-loop μ-loop
+  s = l .before .before .before
+
+  abbrev r : Lexed
+  r = record { kind = t .next-token .result .kind; end = t .next-token .result .end }
+
+  -- a turn moves the cursor on, and not past the end
+  moves : (l .loop .cursor < r .end) × (r .end ≤ length (now (s .args .text)))
+  moves = next-fits (s .args .choice) _ _ r (t .next-token .ensures .0) (s .pre .1) (t .before .before .if1 .taken)
+
+-- what goes on to the next token, looked ahead or not
+ready : (c : tie.Joined2 Inv-loop μ-loop) → let t = c .before in Ready (now (s t .args .text)) (r t .end) (c .if2 .until) (c .if2 .vain) (c .if2 .words)
+ready c =
+    let t = c .before in
+    let v = l t .loop .inv .2 in
+    ⊎-elim
+    (λ w. rw (w .4, w .5, w .6) (record { size = w .2 .kept .1 .1 .0 ∙ v .size; short = omega arith; right = w .2 .ensures }))
+    (λ w. rw (w .1, w .2, w .3) (ready-later _ _ _ _ _ _ _ (omega (arith, moves t)) (le-of-lt (w .0 .left)) v))
+    (c .if2 .came)
 
 -- a token that is kept is the first of those left
-kept : (c : tie.Then2 Inv-loop μ-loop) → let r = c .before .before .next-token .result in let l = c .before .before .before .before .before in let a = l .before .before .before .args in
-    Filled (chosen (a .choice) (now (a .text)) 0) (now (a .list)) (l .loop .list) (l .loop .at) (token (r .kind) (l .loop .cursor) (r .end) ∷ chosen (a .choice) (now (a .text)) (r .end))
+kept : (c : tie.Then3 Inv-loop μ-loop) → let t = c .before .before .before in let a = s t .args in
+    Filled (chosen (a .choice) (now (a .text)) 0) (now (a .list)) (l t .loop .list) (l t .loop .at) (token (r t .kind) (l t .loop .cursor) (r t .end) ∷ chosen (a .choice) (now (a .text)) (r t .end))
 kept c =
-    let l = c .before .before .before .before .before in
-    let s = l .before .before .before in
-    let k = sym (c .before .keeps .ensures) ∙ c .if2 .taken in
+    let t = c .before .before .before in
+    let e = sym (c .before .keeps .ensures) ∙ c .if3 .taken in
     subst (Filled _ _ _ _)
-    (chosen-keep (s .args .choice) _ _ _ (c .before .before .next-token .ensures) (s .pre .1) (c .before .before .before .if1 .taken) k)
-    (l .loop .inv .1)
-
-put-token-requires : tie.Need-put-token-requires Inv-loop μ-loop
-put-token-requires c κs =
-    let s = c .before .before .before .before .before .before .before .before .before in
-    filled-room _ _ _ _ (s .pre .2) _ _ (kept (c .before))
+    (chosen-keep (s t .args .choice) _ _ (r t) (t .next-token .ensures .0) (s t .pre .1) (t .before .before .if1 .taken) e)
+    (l t .loop .inv .1)
 
 loop-again : tie.Need-loop-again Inv-loop μ-loop
 loop-again c =
     let p = c .before .before in
-    let t = p .before .before in
-    let s = t .before .before .before .before .before .before .before .before in
-    (moves (t .before) .1, filled-more _ _ _ _ (s .pre .2) _ _ (kept t) _ _ (p .put-token .ensures .0) (p .put-token .ensures .1))
+    let f = p .before .before in
+    let j = f .before .before in
+    (moves (j .before) .1, filled-more _ _ _ _ (s (j .before) .pre .2) _ _ (kept f) _ _ (p .put-token .ensures .0) (p .put-token .ensures .1), ready j)
 
 loop-again-2 : tie.Need-loop-again-2 Inv-loop μ-loop
 loop-again-2 c =
-    let l = c .before .before .before .before .before in
-    let s = l .before .before .before in
-    let k = sym (c .before .keeps .ensures) ∙ c .if2 .left in (
-      moves (c .before) .1,
+    let j = c .before .before in
+    let t = j .before in
+    let e = sym (c .before .keeps .ensures) ∙ c .if3 .left in (
+      moves t .1,
       subst (Filled _ _ _ _)
-          (chosen-drop (s .args .choice) _ _ _ (c .before .before .next-token .ensures) (s .pre .1) (c .before .before .before .if1 .taken) k)
-          (l .loop .inv .1),
+          (chosen-drop (s t .args .choice) _ _ (r t) (t .next-token .ensures .0) (s t .pre .1) (t .before .before .if1 .taken) e)
+          (l t .loop .inv .1),
+      ready j,
     )
 
 returns : tie.Need-returns Inv-loop μ-loop
@@ -75,15 +93,18 @@ fill-spec =
     (tie.spec
     Inv-loop
     μ-loop
-    (λ c. (omega arith, filled-none _ _))
+    (λ c. (omega arith, filled-none _ _, ready-none _))
+    (λ c. search needs)
+    (λ c κs. let l = c .before .before .before in let s = l .before .before .before in (s .pre .0, omega (arith, s .pre .1), l .loop .inv .2))
+    (λ c. search needs)
+    (λ c κs. let t = c .before .before in (s t .pre .0, moves t .1, l t .loop .inv .2 .size))
     (λ c κs. search needs)
-    (λ c κs. search needs)
-    (λ c. omega (arith, moves (c .before .before)))
-    (λ c. omega (arith, moves (c .before .before)))
-    put-token-requires
-    (λ c. omega (arith, moves (c .before .before .before .before .before)))
+    (λ c. let t = c .before .before .before .before in omega (arith, moves t, s t .pre .0))
+    (λ c. let t = c .before .before .before .before in omega (arith, moves t, s t .pre .0))
+    (λ c κs. let f = c .before in filled-room _ _ _ _ (s (f .before .before .before) .pre .2) _ _ (kept f))
+    (λ c. omega (arith, moves (c .before .before .before .before .before .before .before)))
     loop-again
-    (λ c. omega (arith, moves (c .before)))
+    (λ c. omega (arith, moves (c .before .before .before)))
     loop-again-2
     (λ c κs. search needs)
     (λ c. search needs)

@@ -1,15 +1,17 @@
 -- `masking::copy::mask_tokens` meets its contract. The invariant: up to the cursor the copy is masked. The measure is what is left of the text.
 -- Assumes nothing.
 use Prim.Native.Nat.{ℕ, _+_, _-_, _≤_}
+use native.Mathlib.Nat.{le-of-lt}
 use native.Mathlib.Omega.{arith}
 use mathlib.Core.Path.{_≡_, sym, _∙_}
+use mathlib.Core.Logic.{⊎-elim}
 use denote.Ref.{now}
 use lib.ListN.{length}
 use borrow.Author.Needs.{needs}
 use Rattle.rules.specs.Masking.{front, back}
 use Rattle.lexer.specs.declared.tokenizer.Lexed.{Lexed}
 use Rattle.ahead.specs.Marks.{Ready}
-use Rattle.ahead.proofs.Bits.{ready-none}
+use Rattle.ahead.proofs.Bits.{ready-none, ready-later}
 use Rattle.masking.specs.Spans.{bytesOf, Span}
 use Rattle.masking.proofs.Spans.{span-length}
 use Rattle.masking.proofs.Copying.{filled-room, Copied, copied-none, copied-length, copied-all, next-span, next-apart, copied-more, copied-same}
@@ -50,28 +52,40 @@ module _ (c : tie.After-next-token Inv-loop μ-loop) where
       let k = span-length (now (s .args .text)) (l .loop .cursor) (r .end) span in
       omega arith
 
+-- what goes on to the next token, looked ahead or not
+ready : (c : tie.Joined1 Inv-loop μ-loop) → let n = c .before in Ready (now (s n .args .text)) (r n .end) (c .if1 .until) (c .if1 .vain) (c .if1 .words)
+ready c =
+    let n = c .before in
+    let v = l n .loop .inv .2 in
+    ⊎-elim
+    (λ w. rw (w .4, w .5, w .6) (record { size = w .2 .kept .1 .1 .0 ∙ v .size; short = omega arith; right = w .2 .ensures }))
+    (λ w. rw (w .1, w .2, w .3) (ready-later _ _ _ _ _ _ _ (omega (arith, span n)) (le-of-lt (w .0 .left)) v))
+    (c .if1 .came)
+
 mask-token-requires : tie.Need-mask-token-requires Inv-loop μ-loop
 mask-token-requires c κs =
     let t = c .before in
     let n = t .before .before .before in
-    (record { span = span n; hides = sym (t .before .hides .ensures) ∙ t .if1 .taken; apart = apart n }, omega (arith, same (l n), has-room (s n)))
+    (record { span = span n; hides = sym (t .before .hides .ensures) ∙ t .if2 .taken; apart = apart n }, omega (arith, same (l n), has-room (s n)))
 
 loop-again : tie.Need-loop-again Inv-loop μ-loop
 loop-again c =
     let m = c .before .before in
-    let n = m .before .before .before .before .before in (
+    let j = m .before .before .before .before in
+    let n = j .before in (
       span n .1,
       copied-more (now (s n .args .text)) (now (s n .args .copy)) (has-room (s n)) (l n .loop .cursor) (omega arith) (r n) (n .next-token .ensures .0) _ _ (l n .loop .inv .1) (m .mask-token .ensures),
-      n .next-token .ensures .1,
+      ready j,
     )
 
 loop-again-2 : tie.Need-loop-again-2 Inv-loop μ-loop
 loop-again-2 c =
-    let n = c .before .before .before in
-    let k = sym (c .before .hides .ensures) ∙ c .if1 .left in (
+    let j = c .before .before in
+    let n = j .before in
+    let k = sym (c .before .hides .ensures) ∙ c .if2 .left in (
       span n .1,
       copied-same (now (s n .args .text)) (now (s n .args .copy)) (has-room (s n)) (l n .loop .cursor) (omega arith) (r n) (n .next-token .ensures .0) _ k (l n .loop .inv .1),
-      n .next-token .ensures .1,
+      ready j,
     )
 
 returns : tie.Need-returns Inv-loop μ-loop
@@ -89,6 +103,8 @@ mask-tokens-spec =
     (λ c. let s = c .before .before in (omega arith, copied-none (now (s .args .text)) (now (s .args .copy)) (has-room s) (s .pre .1), ready-none (now (s .args .text))))
     (λ c. search needs)
     (λ c κs. let l = c .before .before in (l .before .before .before .pre .0, omega arith, l .loop .inv .2))
+    (λ c. search needs)
+    (λ c κs. let n = c .before .before in (s n .pre .0, span n .1, l n .loop .inv .2 .size))
     (λ c κs. search needs)
     mask-token-requires
     (λ c. omega (arith, span (c .before .before .before .before .before .before .before)))
