@@ -105,5 +105,13 @@ module _ (s : List ℕ) (from : ℕ) (tree last : List ℕ) (j : ℕ) where
           let o : q ≡ j → ⊥ = λ x. z (ap (nodeAt s tree) x) in
           rw g (v .seen q l (omega (arith, o)) d k)
 
+  -- no byte of a tag is a `$`
+  pub seen-tags : (e : ℕ) → Seen s from tree last j → ((k : ℕ) → k < e → j ≤ k → tagByte (getD s k 0) ≡ true) → Seen s from tree last e
+  seen-tags e v t = record { seen = λ q l m d n. go q l m d n (decLt q j) }
+    where
+      go : (q : ℕ) → from ≤ q → q < e → getD s q 0 ≡ dollar → nodeAt s tree q < length last → Dec (q < j) → q ≤ getD last (nodeAt s tree q) 0
+      go q l m d n (yes h) = v .seen q l h d n
+      go q l m d n (no h) = clash (t q m (omega arith)) (ap tagByte d)
+
   pub seen-all : Seen s from tree last j → length s ≤ j → Seen s from tree last (length s)
   seen-all v h = record { seen = λ q l m d k. v .seen q l (omega arith) d k }

@@ -23,7 +23,7 @@ LoneWord s at word = (k : ℕ) → bit word k ≡ true → Lone s (at + k)
 
 -- The words of a window.
 abbrev pub windowWords : ℕ
-windowWords = 64
+windowWords = 256
 
 -- Its first n words mark none wrongly.
 abbrev pub LoneWords : List ℕ → ℕ → List ℕ → ℕ → Type 0

@@ -115,11 +115,12 @@ fn note(text: &[u8], from: usize, tree: &[u16], last: &mut [u32])
             j += 1;
             continue;
         }
-        let node = key_at(text, j + 1, tree).node;
+        let key = key_at(text, j + 1, tree);
+        let node = key.node;
         if node < last.len() {
             last[node] = j as u32;
         }
-        j += 1;
+        j = key.end;
     }
 }
 
@@ -180,7 +181,7 @@ fn fill_words(text: &[u8], at: usize, from: usize, tree: &[u16], last: &[u32], w
     ensures { λ r. ⌜ LoneWords (now (text .entry)) at (now (words .exit)) windowWords ⌝ }
 {
     let mut m = 0;
-    while m < 64 {
+    while m < 256 {
         if text.len() < at + m * 64 {
             words[m] = 0;
         } else {
@@ -213,7 +214,7 @@ fn is_marked(until: usize, words: &[u64], at: usize) -> bool
         return true;
     }
     let k = at - until;
-    if k >= 4096 {
+    if k >= 16384 {
         return false;
     }
     (words[k / 64] >> (k % 64)) % 2 == 1

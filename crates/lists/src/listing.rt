@@ -83,7 +83,7 @@ fn count(text: &[u8], choice: Choice) -> usize
     requires { ⌜ (length (now text) ≤ maxQuerySize) × (choice .position ≤ length (now text)) ⌝ }
     ensures { λ r. ⌜ r ≡ length (chosen choice (now (text .entry)) 0) ⌝ }
 {
-    let mut words = [0u64; 64];
+    let mut words = [0u64; 256];
     let mut until = 0;
     let mut vain = 0;
     let mut n = 0;
@@ -120,7 +120,7 @@ fn fill(text: &[u8], choice: Choice, list: &mut [u8]) -> usize
     requires { ⌜ (length (now text) ≤ maxQuerySize) × (choice .position ≤ length (now text)) × (length (chosen choice (now text) 0) * tokenBytes ≤ length (now list)) ⌝ }
     ensures { λ r. ⌜ (let ts = chosen choice (now (text .entry)) 0 in (r ≡ length ts) × (now (list .exit) ≡ filled (pack ts) (now (list .entry)))) ⌝ }
 {
-    let mut words = [0u64; 64];
+    let mut words = [0u64; 256];
     let mut until = 0;
     let mut vain = 0;
     let mut at = 0;

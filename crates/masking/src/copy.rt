@@ -118,7 +118,7 @@ fn mask_tokens(text: &[u8], copy: &mut [u8])
     requires { ⌜ (length (now text) ≤ maxQuerySize) × (now copy ≡ filled (now text) (now copy)) ⌝ }
     ensures { λ r. ⌜ now (copy .exit) ≡ filled (masked (now (text .entry))) (now (copy .entry)) ⌝ }
 {
-    let mut words = [0u64; 64];
+    let mut words = [0u64; 256];
     let mut until = 0;
     let mut vain = 0;
     let mut cursor = 0;

@@ -1,6 +1,6 @@
 -- A contract determines what comes back: any two results of one call that it allows are equal, and so is what each lent buffer holds afterwards.
 -- `ended` and `Learnt` are the toolchain's own for each function: how its parameters end, and what its contract tells a caller.
--- Every public function of the libraries is here; `read_case` of the program `replay` is not, since its contract leaves a choice.
+-- Every public function of the libraries is here but `next_token` and `look` of `ahead`, which leave a choice that no answer shows; so does `read_case` of the program `replay`.
 -- Assumes nothing.
 use mathlib.Core.Path.{_≡_, refl, sym, ap, _∙_}
 use denote.Ref.{now}
@@ -103,6 +103,9 @@ probe-is-alphanumeric κs a r s u v p q = (same p q, refl)
 
 pub next-token : Determined tokenizer.next_token.ended tokenizer.next_token.Reads.Learnt
 next-token κs a r s u v p q = (same p q, refl)
+
+pub is-tag-byte : Determined tokenizer.is_tag_byte.ended tokenizer.is_tag_byte.Reads.Learnt
+is-tag-byte κs a r s u v p q = (same p q, refl)
 
 pub step : Determined tokenizer.step.ended tokenizer.step.Reads.Learnt
 step κs a r s u v p q = (same p q, refl)
