@@ -1,4 +1,5 @@
-//! Finds the oracle's files below ORACLE_SRC, and links the archives where this machine is x86-64.
+//! Finds the oracle's files below ORACLE_SRC, and links the archives of the library: those in the folder GIEHTAMUN_ARCHIVES, which are
+//! for this machine, or, where the machine is x86-64, those that rt writes.
 use std::env::var;
 use std::path::Path;
 
@@ -6,6 +7,7 @@ fn main() {
     println!("cargo::rustc-check-cfg=cfg(oracle)");
     println!("cargo::rustc-check-cfg=cfg(linked)");
     println!("cargo::rerun-if-env-changed=ORACLE_SRC");
+    println!("cargo::rerun-if-env-changed=GIEHTAMUN_ARCHIVES");
     let root = format!("{}/..", var("CARGO_MANIFEST_DIR").unwrap());
     let source = var("ORACLE_SRC").unwrap_or(format!("{root}/../shared/docs/src"));
     let path = |name: &str| Path::new(&source).join("src").join(name);
@@ -20,9 +22,10 @@ fn main() {
         println!("cargo::rustc-cfg=oracle");
     }
     std::fs::write(format!("{}/oracle.rs", var("OUT_DIR").unwrap()), text).unwrap();
-    if var("CARGO_CFG_TARGET_ARCH").unwrap() == "x86_64" {
-        println!("cargo::rerun-if-changed={root}/target/staticlib");
-        println!("cargo::rustc-link-search=native={root}/target/staticlib");
+    let of_rt = (var("CARGO_CFG_TARGET_ARCH").unwrap() == "x86_64").then(|| format!("{root}/target/staticlib"));
+    if let Some(archives) = var("GIEHTAMUN_ARCHIVES").ok().or(of_rt) {
+        println!("cargo::rerun-if-changed={archives}");
+        println!("cargo::rustc-link-search=native={archives}");
         println!("cargo::rustc-link-lib=static=probe");
         println!("cargo::rustc-link-lib=static=giehtamun");
         println!("cargo::rustc-cfg=linked");

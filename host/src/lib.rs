@@ -1,5 +1,5 @@
-//! The oracle, a second reading of document 01, and two ways to the proved library: linked (x86-64), or through the bridge, which runs
-//! anywhere.
+//! The oracle, a second reading of document 01, and two ways to the proved library: linked, where there is an archive for this machine
+//! (build.rs), or through the bridge, which runs anywhere.
 pub mod bridge;
 #[cfg(linked)]
 pub mod linked;

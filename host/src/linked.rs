@@ -1,4 +1,4 @@
-//! The library, linked into this process.
+//! The library, linked into this process: its C functions over slices.
 use crate::{Answer, Call, Op};
 
 extern "C" {
@@ -17,28 +17,51 @@ extern "C" {
     fn giehtamun_place(text: *const u8, len: usize, offset: usize) -> u64;
 }
 
+// Safety, in each function below: the C function reads and writes the slices that it is lent and nothing else, as its Rattle source says.
+
+#[inline]
+pub fn valid_length(text: &[u8]) -> usize {
+    unsafe { probe_valid_length(text.as_ptr(), text.len()) }
+}
+
+#[inline]
+pub fn list(text: &[u8], mode: u32, list: &mut [u8]) -> u64 {
+    unsafe { giehtamun_list(text.as_ptr(), text.len(), mode, list.as_mut_ptr(), list.len()) }
+}
+
+#[inline]
+pub fn step(text: &[u8], cursor: usize) -> u64 {
+    unsafe { giehtamun_step(text.as_ptr(), text.len(), cursor) }
+}
+
+#[inline]
+pub fn mask(text: &[u8], copy: &mut [u8]) -> u64 {
+    unsafe { giehtamun_mask(text.as_ptr(), text.len(), copy.as_mut_ptr(), copy.len()) }
+}
+
+#[inline]
+pub fn place(text: &[u8], offset: usize) -> u64 {
+    unsafe { giehtamun_place(text.as_ptr(), text.len(), offset) }
+}
+
 pub fn call(c: &Call) -> Answer {
-    assert!(c.lent <= c.memory.len());
     let mut memory = c.memory.clone();
-    let (text, len, number, end) = (c.text.as_ptr(), c.text.len(), c.number, c.end as usize);
-    let (bytes, lent) = (memory.as_mut_ptr(), c.lent);
-    // Safety: each function reads at most `len` bytes from `text` and reads or writes at most `lent` of `bytes`, as its Rattle source says.
-    let answer = unsafe {
-        match c.op {
-            Op::ValidLength => probe_valid_length(text, len) as u64,
-            Op::CodeAt => probe_code_at(text, len, number as usize) as u64,
-            Op::LengthAt => probe_length_at(text, len, number as usize) as u64,
-            Op::IsWhiteSpace => probe_is_white_space(number as u32) as u64,
-            Op::IsAlphabetic => probe_is_alphabetic(number as u32) as u64,
-            Op::IsAlphanumeric => probe_is_alphanumeric(number as u32) as u64,
-            Op::List => giehtamun_list(text, len, c.mode, bytes, lent),
-            Op::ListUpTo => giehtamun_list_up_to(text, len, c.mode, number as usize, bytes, lent),
-            Op::Step => giehtamun_step(text, len, number as usize),
-            Op::Mask => giehtamun_mask(text, len, bytes, lent),
-            Op::TokenText => giehtamun_token_text(text, len, number as usize, end),
-            Op::ShownText => giehtamun_shown_text(text, len, bytes, lent, c.mode, number as usize, end),
-            Op::Place => giehtamun_place(text, len, number as usize),
-        }
+    let (number, end, lent) = (c.number as usize, c.end as usize, &mut memory[..c.lent]);
+    let (text, len) = (c.text.as_ptr(), c.text.len());
+    let answer = match c.op {
+        Op::ValidLength => valid_length(c.text) as u64,
+        Op::CodeAt => unsafe { probe_code_at(text, len, number) as u64 },
+        Op::LengthAt => unsafe { probe_length_at(text, len, number) as u64 },
+        Op::IsWhiteSpace => unsafe { probe_is_white_space(number as u32) as u64 },
+        Op::IsAlphabetic => unsafe { probe_is_alphabetic(number as u32) as u64 },
+        Op::IsAlphanumeric => unsafe { probe_is_alphanumeric(number as u32) as u64 },
+        Op::List => list(c.text, c.mode, lent),
+        Op::ListUpTo => unsafe { giehtamun_list_up_to(text, len, c.mode, number, lent.as_mut_ptr(), lent.len()) },
+        Op::Step => step(c.text, number),
+        Op::Mask => mask(c.text, lent),
+        Op::TokenText => unsafe { giehtamun_token_text(text, len, number, end) },
+        Op::ShownText => unsafe { giehtamun_shown_text(text, len, lent.as_ptr(), lent.len(), c.mode, number, end) },
+        Op::Place => place(c.text, number),
     };
     Answer { answer, memory }
 }

@@ -159,3 +159,26 @@ pub fn damaged(r: &mut Random, text: &str) -> Vec<u8> {
     }
     text
 }
+
+/// A text of some length with many `$`, most of which begin nothing, so that the library looks ahead: tags of their own, tags that come again nearby or far
+/// away, long ones that share their beginnings, and `$` without a tag.
+pub fn dollars(r: &mut Random, bytes: usize) -> String {
+    let mut text = String::new();
+    let mut own = 0;
+    while text.len() < bytes {
+        own += 1;
+        text += &match r.below(400) {
+            0..=299 => format!("$a{own}"),
+            300..=319 => format!("$q{own}$ 'x' $q{own}$"),
+            320..=339 => format!("$a{own}$$$ "),
+            340..=359 => format!("$ {} ", r.one_of(&WORDS)),
+            360..=379 => format!("$é{own}$"),
+            380..=389 => format!("${}", "k".repeat(r.below(300))),
+            390..=392 => format!("${}{own}", "long_".repeat(r.below(2000))),
+            393 => format!("$far{}$", r.below(12)),
+            394..=396 => r.one_of(&["'", "/*", "*/", "--", "\n"]).to_string(),
+            _ => "$$".to_string(),
+        };
+    }
+    text
+}

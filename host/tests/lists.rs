@@ -133,6 +133,25 @@ fn random_texts() {
     println!("{n} random texts of {bytes} bytes, {broken} of them not UTF-8, all four lists: {compared} calls");
 }
 
+#[test]
+fn texts_of_many_dollars() {
+    let mut r = Random(0x636920D871574E69);
+    let n = texts::how_many(60);
+    let (mut bytes, mut compared) = (0, 0);
+    for _ in 0..n {
+        let length = 10_000 + r.below(50_000);
+        let text = texts::dollars(&mut r, length).into_bytes();
+        bytes += text.len();
+        let mut calls = vec![];
+        for mode in [0, 1] {
+            with_lengths(&mut calls, Op::List, mode, 0, &text, [1, 2, 6]);
+            with_lengths(&mut calls, Op::ListUpTo, mode, r.below(text.len()) as u64, &text, [1, 2]);
+        }
+        compared += compare(&calls, calls.iter().map(want));
+    }
+    println!("{n} texts of {bytes} bytes with many dollar signs: {compared} calls");
+}
+
 /// Around the size limit: one long token, a token a byte, queries, and each of these with its last byte broken.
 #[test]
 fn sizes() {

@@ -89,6 +89,19 @@ fn random_texts() {
     println!("{n} random texts of {bytes} bytes, {broken} of them not UTF-8: {compared} calls");
 }
 
+#[test]
+fn texts_of_many_dollars() {
+    let mut r = Random(0xA458FEA3F4933D7E);
+    let n = texts::how_many(60);
+    let mut compared = 0;
+    for _ in 0..n {
+        let length = 10_000 + r.below(50_000);
+        let text = texts::dollars(&mut r, length).into_bytes();
+        compared += compare_copies(with_lengths(&text, [2]));
+    }
+    println!("{n} texts with many dollar signs: {compared} calls");
+}
+
 /// Around the size limit: one long token, a token a byte, queries, and each of these with its last byte broken.
 #[test]
 fn sizes() {

@@ -1,0 +1,59 @@
+//! What the library is measured against: the Rust that it was ported from, and the rest as one would write it in Rust.
+use host::lexer::token::Token;
+use host::lexer::tokenizer::{tokenize, tokenize_with_whitespace, Tokenizer};
+use host::parser::syntax_kind::SyntaxKind as K;
+use std::ops::Range;
+
+pub fn checked(text: &[u8]) -> &str {
+    std::str::from_utf8(text).expect("the texts are UTF-8")
+}
+
+pub fn full(text: &[u8]) -> Vec<Token> {
+    tokenize_with_whitespace(checked(text))
+}
+
+pub fn lean(text: &[u8]) -> Vec<Token> {
+    tokenize(checked(text))
+}
+
+/// The bytes of the text that a token hides.
+fn hidden(text: &[u8], token: &Token) -> Range<usize> {
+    let (start, end) = (token.start as usize, token.end as usize);
+    let quote = if text[start].is_ascii() { 1 } else { 3 };
+    match token.kind {
+        K::StringToken => start + quote..end - quote,
+        K::HereDoc => {
+            let tag = 2 + text[start + 1..].iter().position(|b| *b == b'$').unwrap();
+            start + tag..end - tag
+        }
+        K::Comment if text[start] == b'/' => start + 2..end - 2,
+        K::Comment | K::ErrorMultilineCommentIsNotClosed => start + 2..end,
+        K::ErrorSingleQuoteIsNotClosed | K::ErrorDoubleQuoteIsNotClosed | K::ErrorBackQuoteIsNotClosed => start + quote..end,
+        _ => start..start,
+    }
+}
+
+/// The masked copy, into bytes that are there already.
+pub fn mask(text: &[u8], copy: &mut [u8]) {
+    copy.copy_from_slice(text);
+    for token in full(text) {
+        copy[hidden(text, &token)].fill(b'#');
+    }
+}
+
+/// Every token by a call of its own; how many there are. The text is taken to be UTF-8, as the library's steps do not test it either.
+pub fn steps(text: &str) -> usize {
+    let mut tokenizer = Tokenizer::new(text);
+    let mut tokens = 0;
+    while std::hint::black_box(tokenizer.next_token()).kind != K::EndOfStream {
+        tokens += 1;
+    }
+    tokens
+}
+
+/// The line and the column of an offset.
+pub fn place(text: &[u8], offset: usize) -> (usize, usize) {
+    let before = &text[..offset];
+    let line = before.iter().filter(|b| **b == b'\n').count();
+    (line, before.iter().rev().position(|b| *b == b'\n').unwrap_or(offset))
+}
