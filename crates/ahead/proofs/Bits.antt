@@ -11,7 +11,7 @@ use lib.ListN.{length, getD, set, replicate, length-replicate}
 use lib.Seq.{getD-set-same, getD-set-other}
 use borrow.Author.Tests.{ltb-true, ltb-false, leb-false}
 use Rattle.rules.proofs.Tests.{clash, eqb-true}
-use Rattle.ahead.specs.Marks.{Lone, bit, LoneWord, windowWords, LoneWords, LoneUntil, marked, Marked, patience, Ready}
+use Rattle.ahead.specs.Marks.{Lone, bit, LoneWord, windowWords, LoneWords, LoneUntil, Marked, patience, Ready}
 
 -- no bit of 0 is set
 pub bit-none : (k : ℕ) → bit 0 k ≡ false

@@ -11,14 +11,13 @@ use utf8::byte_at;
 ghost use mathlib.Core.Path.{_≡_};
 ghost use mathlib.Core.Bool.{true};
 ghost use Prim.Native.Nat.{_+_, _≤_, _<_};
-ghost use lib.ListN.{length, getD, drop, set};
-ghost use Rattle.rules.specs.Characters.{dollar};
+ghost use lib.ListN.{length, drop};
 ghost use Rattle.rules.specs.Dollars.{tagByte};
 ghost use Rattle.rules.specs.Limits.{maxQuerySize};
 ghost use Rattle.rules.specs.Tokens.{lexeme, afterDotAt};
 ghost use Rattle.lexer.specs.Ends.{endsAt};
 ghost use Rattle.lexer.specs.HereDocs.{TagEnd};
-ghost use Rattle.ahead.specs.Nodes.{treeSize, edgeOf, nodeFrom, nodeAt, Seen};
+ghost use Rattle.ahead.specs.Nodes.{treeSize, edgeOf, nodeFrom, Seen};
 ghost use Rattle.ahead.specs.Marks.{Lone, windowWords, LoneWord, LoneWords, LoneUntil, marked, Marked, Ready};
 
 // Where the byte of a tag leads to from a node.

@@ -1,18 +1,17 @@
 -- A match on a byte: an arm's byte is known, and in the last arm every other byte is ruled out.
 -- Assumes nothing.
-use Prim.Native.Nat.{ℕ, zero, suc, _<_}
+use Prim.Native.Nat.{ℕ, _<_}
 use mathlib.Core.Path.{_≡_, refl, sym, ap, _∙_}
 use mathlib.Core.List.{List, [], _∷_}
-use mathlib.Core.Bool.{Bool, true, false, cond, _&&_, _||_, and-false}
+use mathlib.Core.Bool.{Bool, true, false, _||_}
 use mathlib.Core.Logic.{_⊎_, inl, inr}
 use borrow.Author.Tests.{ne-eqb}
 use lib.Dec.{eqb}
-use Rattle.rules.specs.Characters.{exclamation, percent, roundOpen, roundClose, star, plus, comma, dash, dot, slash, colon, semicolon, less, equals, greater, question, at, capitalG, squareOpen, backslash, squareClose, caret, smallG, curlyOpen, bar, curlyClose}
+use Rattle.rules.specs.Characters.{exclamation, percent, roundOpen, roundClose, star, plus, comma, dash, dot, slash, colon, semicolon, less, equals, greater, question, at, squareOpen, backslash, squareClose, caret, curlyOpen, bar, curlyClose}
 use Rattle.rules.specs.Kinds.{ErrorToken}
-use Rattle.rules.specs.Lexeme.{two}
 use Rattle.rules.specs.Operators.{single, pair}
 use Rattle.rules.proofs.Tests.{clash, eqb-true, or-cases}
-use Rattle.rules.proofs.Tables.{agree, agree-at}
+use Rattle.rules.proofs.Tables.{agree-at}
 
 -- none of the arms before was taken: what the last arm knows of its byte, the last key first
 abbrev pub Missed : List ℕ → ℕ → Type 0

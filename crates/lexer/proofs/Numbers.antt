@@ -1,14 +1,14 @@
 -- Parts of a text that are ASCII, and the answers of rules 6 and 7 over them. Assumes nothing.
-use Prim.Native.Nat.{ℕ, _+_, _-_, _≤_, _<_}
+use Prim.Native.Nat.{ℕ, _+_, _-_}
 use native.Mathlib.Omega.{arith}
-use mathlib.Core.Path.{_≡_, sym, ap, ap₂, _∙_}
+use mathlib.Core.Path.{_≡_, sym, ap, _∙_}
 use mathlib.Core.List.{List}
 use mathlib.Core.Bool.{Bool, true, false, cond}
-use lib.ListN.{length, getD, take, drop}
+use lib.ListN.{take, drop}
 use Rattle.rules.specs.Utf8.{Char, chars}
 use Rattle.rules.specs.Kinds.{Number, BareWord, ErrorWrongNumber}
 use Rattle.rules.specs.Lexeme.{first, is, run}
-use Rattle.rules.specs.Numbers.{Figures, figures, numberWord, goesOn, allChars, closing, number}
+use Rattle.rules.specs.Numbers.{figures, numberWord, goesOn, allChars, closing, number}
 use Rattle.rules.proofs.Numbers.{closing-number, closing-word, number-well, number-wrong}
 use Rattle.rules.proofs.NumberBytes.{LeadAt, ascii-rest}
 use Rattle.lexer.specs.declared.tokenizer.Lexed.{Lexed}

@@ -10,7 +10,7 @@ use lib.Dec.{eqb}
 use lib.ListN.{length, drop}
 use borrow.Author.Tests.{lt-ltb}
 use Rattle.rules.specs.Kinds.{Whitespace}
-use Rattle.rules.specs.Tokens.{Token, token, tokens, tokensFrom, tokenAt, lexeme, afterDotAt}
+use Rattle.rules.specs.Tokens.{Token, token, tokens, tokensFrom, lexeme, afterDotAt}
 use Rattle.rules.specs.Listing.{lean, only, leanKeeps, leanUpToKeeps, startsBefore, wholeList, listUpTo}
 use Rattle.rules.proofs.Edges.{Tiles, tiles, tiles-le, tiles-count, from-start}
 use Rattle.rules.proofs.Listing.{only-yes, only-no, only-none, only-length, up-to-stop, up-to-step}

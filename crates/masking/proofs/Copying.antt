@@ -7,7 +7,7 @@ use mathlib.Core.Bool.{false}
 use lib.ListN.{length, getD, take, drop, set, length-append, length-take, length-drop, take-append-drop, drop-of-length-le}
 use lib.Seq.{drop-at, drop-drop, drop-cons, set-at, append-snoc, take-suc, length-take-le}
 use Rattle.rules.specs.Kinds.{hidingKind}
-use Rattle.rules.specs.Tokens.{Token, token, tokens, tokensFrom, tokenAt, lexeme, afterDotAt}
+use Rattle.rules.specs.Tokens.{Token, token, tokensFrom, lexeme, afterDotAt}
 use Rattle.rules.specs.Masking.{front, back, hide, maskToken, maskTokens, masked}
 use Rattle.rules.specs.Answers.{filled}
 use Rattle.rules.proofs.Visible.{Fit, Fits, mask-length}

@@ -1,12 +1,11 @@
 -- The parts of a case by its two numbers. Assumes nothing.
-use Prim.Native.Nat.{ℕ, _+_, _-_, _*_, _≤_}
-use mathlib.Core.Path.{_≡_, sym, ap, _∙_}
+use Prim.Native.Nat.{ℕ, _+_, _-_, _*_}
+use mathlib.Core.Path.{_≡_, ap, _∙_}
 use mathlib.Core.List.{List}
 use native.Mathlib.Omega.{arith}
 use lib.ListN.{length, take, drop, length-drop}
 use lib.Seq.{take-all}
 use Rattle.rules.specs.Limits.{tokenBytes}
-use Rattle.rules.specs.Listing.{full, wholeList, pack}
 use Rattle.replay.specs.Cases.{numberOf32, textOf, afterText, listOf}
 
 past-four : (k : ℕ) → 4 + k - 4 ≡ k

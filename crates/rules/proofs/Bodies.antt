@@ -12,11 +12,11 @@ use lib.Seq.{getD-drop}
 use borrow.Author.Tests.{le-leb, eq-eqb, ne-eqb, not-true}
 use Rattle.rules.specs.Utf8.{Char, width, noCode, wellFormed, codeOf, charOf, charAt, chars}
 use Rattle.rules.specs.Characters.{backslash}
-use Rattle.rules.specs.Lexeme.{first, Body, further, closedBy, openTo}
+use Rattle.rules.specs.Lexeme.{Body, further, closedBy, openTo}
 use Rattle.rules.specs.Quotes.{quotedBody, upTo}
 use Rattle.rules.proofs.Tests.{clash, eqb-true}
 use Rattle.rules.proofs.Decoding.{Tail, Form, none, one, two, three, four, form-of, low-of, formed-three, three-other, width-formed, chars-at, chars-ascii, chars-end, some-left, within-text}
-use Rattle.rules.proofs.Bytes.{byte-step, taken-step, code-like, code-is, next-is}
+use Rattle.rules.proofs.Bytes.{byte-step, taken-step, code-like, next-is}
 use Rattle.rules.proofs.Quotes.{quoted-taken, quoted-backslash, quoted-double, quoted-close, quoted-other, upTo-close}
 
 further-none : (b : Body) → further 0 b ≡ b

@@ -1,9 +1,9 @@
 -- Rule 1: nested comments.
-use Prim.Native.Nat.{ℕ, zero, suc, _+_, _-_, _≤_, _<_}
+use Prim.Native.Nat.{ℕ, zero, suc, _+_, _-_}
 use native.Mathlib.Omega.{arith}
-use mathlib.Core.Path.{_≡_, refl, sym, ap, ap₂, _∙_, subst}
-use mathlib.Core.List.{List, [], _∷_, _++_}
-use mathlib.Core.Bool.{Bool, true, false, cond, not, _&&_, _||_}
+use mathlib.Core.Path.{_≡_, refl, ap, ap₂, _∙_, subst}
+use mathlib.Core.List.{List, [], _∷_}
+use mathlib.Core.Bool.{Bool, true, false, _&&_}
 use lib.Dec.{eqb}
 use lib.ListN.{length}
 use Rattle.rules.specs.Utf8.{Char, width}
@@ -13,9 +13,9 @@ use Rattle.rules.specs.Lexeme.{first, further, closedBy, openTo, enclose
 use Rattle.rules.specs.Spaces.{commentBody}
 use Rattle.rules.specs.Tokens.{rule, slashStar, read, lexemeOf}
 use Rattle.rules.specs.Masking.{front, back}
-use Rattle.rules.proofs.Reading.{flatten, widths, Read}
-use Rattle.rules.proofs.Proper.{Proper, Propers, propers, propers-right, one-byte, one-wide}
-use Rattle.rules.proofs.Masks.{hash, hashes}
+use Rattle.rules.proofs.Reading.{widths, Read}
+use Rattle.rules.proofs.Proper.{Propers, propers, propers-right, one-byte, one-wide}
+use Rattle.rules.proofs.Masks.{hash}
 use Rattle.rules.proofs.Step.{Step}
 use Rattle.rules.proofs.Rules.{lexeme-by}
 use Rattle.rules.proofs.Delimited.{Shape, unclosed, closing, more, open-hashes, shut-hashes, open-step, shut-step}

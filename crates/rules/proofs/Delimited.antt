@@ -1,18 +1,16 @@
 -- Lexemes with a closing delimiter: the shape of their body, and the steps of a text that begins with one.
-use Prim.Native.Nat.{ℕ, zero, suc, _+_, _-_, _≤_, _<_}
+use Prim.Native.Nat.{ℕ, zero, suc, _+_, _-_, _<_}
 use native.Mathlib.Omega.{arith}
-use mathlib.Core.Path.{_≡_, refl, sym, ap, ap₂, _∙_, subst}
+use mathlib.Core.Path.{_≡_, refl, sym, ap, _∙_, subst}
 use mathlib.Core.List.{List, [], _∷_, _++_, append-assoc, append-nil}
-use mathlib.Core.Bool.{Bool, true, false, cond, not, _&&_, _||_}
-use lib.Dec.{eqb, leb}
-use lib.ListN.{length}
+use mathlib.Core.Bool.{Bool, true, false}
 use Rattle.rules.specs.Utf8.{Char, width}
 use Rattle.rules.specs.Lexeme.{first, is, Body, further, closedBy, openTo, enclosed}
 use Rattle.rules.specs.Tokens.{lexemeOf}
 use Rattle.rules.specs.Masking.{front, back}
 use Rattle.rules.proofs.Reading.{flatten, widths, widths-append}
-use Rattle.rules.proofs.Proper.{Proper, Propers, propers-left, propers-right}
-use Rattle.rules.proofs.Masks.{Masks, Kept, none, hash, hashes, kept-refl, kept-first, widths-hashes}
+use Rattle.rules.proofs.Proper.{Propers, propers-left}
+use Rattle.rules.proofs.Masks.{Kept, none, hash, hashes, kept-first}
 use Rattle.rules.proofs.Step.{Step}
 use Rattle.rules.proofs.Rules.{plain, plain-step, hiding-step}
 use Rattle.rules.proofs.Tests.{clash}

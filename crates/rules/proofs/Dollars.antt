@@ -1,9 +1,9 @@
 -- Rule 5: here-documents and lone dollars.
-use Prim.Native.Nat.{ℕ, zero, suc, _+_, _-_, _*_, _≤_, _<_}
+use Prim.Native.Nat.{ℕ, zero, suc, _+_, _-_, _*_, _<_}
 use native.Mathlib.Omega.{arith}
-use mathlib.Core.Path.{_≡_, refl, sym, ap, ap₂, _∙_, subst}
-use mathlib.Core.List.{List, [], _∷_, _++_, append-assoc, append-nil}
-use mathlib.Core.Bool.{Bool, true, false, cond, not, _&&_, _||_}
+use mathlib.Core.Path.{_≡_, refl, sym, ap, _∙_, subst}
+use mathlib.Core.List.{List, [], _∷_, _++_, append-assoc}
+use mathlib.Core.Bool.{Bool, true, false}
 use mathlib.Core.Option.{Option, some, none}
 use lib.Dec.{eqb}
 use lib.ListN.{length, drop, length-append}
@@ -16,8 +16,8 @@ use Rattle.rules.specs.Dollars.{tagByte, tagOf, begins, find, delimiter,
 use Rattle.rules.specs.Tokens.{rule, dollars, read, lexemeOf}
 use Rattle.rules.specs.Masking.{beforeDollar, tagWidth, front, back}
 use Rattle.rules.proofs.Reading.{flatten, widths, Read, flatten-append, widths-append}
-use Rattle.rules.proofs.Proper.{Proper, Propers, propers, propers-left, propers-right, one-byte, one-wide}
-use Rattle.rules.proofs.Masks.{Masks, end, keep, hide, Kept, kept-masks, hash, hashes}
+use Rattle.rules.proofs.Proper.{Propers, propers, propers-left, propers-right, one-byte, one-wide}
+use Rattle.rules.proofs.Masks.{Masks, end, keep, hide, kept-masks, hash, hashes}
 use Rattle.rules.proofs.Step.{Step}
 use Rattle.rules.proofs.Rules.{lexeme-by, rule-first, plain-step, hiding-step}
 use Rattle.rules.proofs.Tests.{clash, eqb-true, eqb-same, and-left, and-right, apart, apart′, tag-small}

@@ -1,16 +1,16 @@
 -- A text with some of its characters hidden: for each of them as many `#` as it has bytes.
-use Prim.Native.Nat.{ℕ, zero, suc, _+_, _-_, _≤_, _<_}
+use Prim.Native.Nat.{ℕ, zero, suc, _+_, _-_, _<_}
 use native.Mathlib.Omega.{arith}
 use native.Mathlib.Nat.{suc-inj}
-use mathlib.Core.Path.{_≡_, refl, sym, ap, ap₂, _∙_, subst}
+use mathlib.Core.Path.{_≡_, refl, sym, ap, subst}
 use mathlib.Core.List.{List, [], _∷_, _++_, append-assoc}
 use mathlib.Core.Logic.{_⊎_, inl, inr}
-use lib.ListN.{length, getD, take, drop, replicate, length-append, length-replicate}
+use lib.ListN.{length, drop, replicate}
 use Rattle.rules.specs.Utf8.{formed, codeOf, Char, width, charOf}
 use Rattle.rules.specs.Limits.{maskByte}
 use Rattle.rules.specs.Lexeme.{first}
 use Rattle.rules.proofs.Reading.{flatten, widths, Read, flatten-append, widths-append}
-use Rattle.rules.proofs.Proper.{Propers, Proper, Under, stop, same, dark, under-append, keep-char}
+use Rattle.rules.proofs.Proper.{Propers, Under, stop, dark, under-append, keep-char}
 
 abbrev pub hash : Char
 hash = record { code = maskByte; bytes = maskByte ∷ [] }

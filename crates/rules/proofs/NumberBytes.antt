@@ -8,15 +8,15 @@ use native.Mathlib.Omega.{arith}
 use borrow.Author.Tests.{ne-eqb}
 use mathlib.Core.Path.{_≡_, refl, sym, ap, ap₂, _∙_, subst}
 use mathlib.Core.List.{List, [], _∷_}
-use mathlib.Core.Bool.{Bool, true, false, cond, _&&_, _||_}
+use mathlib.Core.Bool.{Bool, true, false, cond, _&&_}
 use lib.Dec.{eqb}
 use lib.ListN.{length, getD, take, drop, List·getD-eq-default}
 use lib.Seq.{drop-drop, getD-drop}
-use Rattle.rules.specs.Utf8.{Char, width, noCode, charAt, chars}
+use Rattle.rules.specs.Utf8.{Char, width, charAt, chars}
 use Rattle.rules.specs.Classes.{digit, hexDigit}
 use Rattle.rules.specs.Characters.{plus, dash, dot, zeroDigit, oneDigit, capitalB, capitalE, capitalP, capitalX, underscore, smallB, smallE, smallP, smallX}
 use Rattle.rules.specs.Lexeme.{first}
-use Rattle.rules.specs.Numbers.{digits, either, Opening, prefix, opening, radixDigit, fraction, mantissa, Figures, marks, signs, power, exponent, figures, allChars}
+use Rattle.rules.specs.Numbers.{digits, either, prefix, opening, radixDigit, fraction, mantissa, Figures, marks, signs, power, exponent, figures, allChars}
 use Rattle.rules.specs.Tokens.{afterDotAt}
 use Rattle.rules.proofs.Decoding.{chars-at, chars-ascii, chars-end, code-high}
 use Rattle.rules.proofs.Bytes.{next-like, next-is, code-like}

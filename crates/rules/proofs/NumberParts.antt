@@ -1,9 +1,9 @@
 -- Rule 6 looks at the characters that it takes, at the next one, and at one more, which must be a digit to count.
-use Prim.Native.Nat.{ℕ, zero, suc, _+_, _-_, _≤_, _<_}
+use Prim.Native.Nat.{ℕ, suc, _+_, _-_, _≤_}
 use native.Mathlib.Omega.{arith}
-use mathlib.Core.Path.{_≡_, refl, sym, ap, ap₂, _∙_, subst}
+use mathlib.Core.Path.{_≡_, refl, sym, ap, ap₂, _∙_}
 use mathlib.Core.List.{List, [], _∷_, _++_}
-use mathlib.Core.Bool.{Bool, true, false, cond, not, _&&_, _||_, and-false}
+use mathlib.Core.Bool.{Bool, true, false, cond, _&&_, and-false}
 use mathlib.Core.Logic.{_⊎_, inl, inr}
 use lib.Dec.{eqb}
 use lib.ListN.{length, drop, length-drop}
@@ -14,8 +14,7 @@ use Rattle.rules.specs.Characters.{dot, zeroDigit, oneDigit, capitalB, c
 use Rattle.rules.specs.Limits.{maskByte}
 use Rattle.rules.specs.Lexeme.{first}
 use Rattle.rules.specs.Numbers.{digits, either, Opening, prefix, opening, radixDigit, fraction, mantissa, Figures, marks, signs, power, exponent, figures}
-use Rattle.rules.proofs.Masks.{Masks, Kept, none, next, kept-first-append, masks-first, kept-second}
-use Rattle.rules.proofs.Tests.{clash}
+use Rattle.rules.proofs.Masks.{Kept, none, next, kept-first-append, masks-first, kept-second}
 
 -- the clauses of `digits`, by its tests
 abbrev pub joins : (ℕ → Bool) → Bool → ℕ → ℕ → Bool

@@ -1,30 +1,30 @@
 -- Rules 6 and 7: the characters of a number are ASCII, and its step.
 use Prim.Native.Nat.{ℕ, zero, suc, _+_, _-_, _≤_, _<_}
 use native.Mathlib.Omega.{arith}
-use native.Mathlib.Nat.{add-zero, zero-add, suc-add}
+use native.Mathlib.Nat.{zero-add, suc-add}
 use native.Mathlib.Numerals.{add-one}
-use mathlib.Core.Path.{_≡_, refl, sym, ap, ap₂, _∙_, subst}
+use mathlib.Core.Path.{_≡_, refl, sym, ap, _∙_, subst}
 use mathlib.Core.List.{List, [], _∷_, _++_, append-assoc}
-use mathlib.Core.Bool.{Bool, true, false, cond, not, _&&_, _||_}
+use mathlib.Core.Bool.{Bool, true, false, cond, _&&_, _||_}
 use mathlib.Core.Logic.{_⊎_, inl, inr}
 use lib.Dec.{eqb}
 use lib.ListN.{length, take, drop, take-append-drop}
 use lib.Seq.{take-append-seam, drop-append-seam}
 use Rattle.rules.specs.Utf8.{within, Char, width}
-use Rattle.rules.specs.Classes.{alphabetic, digit, hexDigit}
+use Rattle.rules.specs.Classes.{digit, hexDigit}
 use Rattle.rules.specs.Characters.{plus, dash, dot, zeroDigit, oneDigit, capitalB, capitalE, capitalP, capitalX, underscore, smallB, smallE, smallP, smallX}
 use Rattle.rules.specs.Kinds.{Number, BareWord, ErrorWrongNumber}
 use Rattle.rules.specs.Lexeme.{first, is, run}
 use Rattle.rules.specs.Numbers.{number, digits, either, Opening, prefix, opening, radixDigit, fraction, mantissa, Figures, marks, signs, power, exponent, figures, numberWord, goesOn, allChars, closing}
 use Rattle.rules.specs.Tokens.{rule, numeral, read, lexemeOf}
 use Rattle.rules.proofs.Reading.{widths, Read, widths-append}
-use Rattle.rules.proofs.Proper.{Proper, Propers, propers, propers-left, propers-right, one-wide}
-use Rattle.rules.proofs.Masks.{Kept, kept-first, kept-append, kept-first-append, kept-refl}
+use Rattle.rules.proofs.Proper.{Propers, propers, one-wide}
+use Rattle.rules.proofs.Masks.{Kept, kept-first, kept-append}
 use Rattle.rules.proofs.Step.{Step}
 use Rattle.rules.proofs.Rules.{lexeme-by, plain, plain-step, cond-rule}
-use Rattle.rules.proofs.Runs.{rule-kept, Ran, ran, ran-size}
-use Rattle.rules.proofs.Tests.{clash, eqb-true, or-cases, and-left, and-right, within-true, digit-small, cond-ind}
-use Rattle.rules.proofs.NumberParts.{joins, digits-digit, digits-join, digits-stop, fraction-dot, fraction-none, prefix-size, fraction-least, power-well, power-wrong, power-least, exponent-none, exponent-some, figures-local}
+use Rattle.rules.proofs.Runs.{rule-kept, ran, ran-size}
+use Rattle.rules.proofs.Tests.{eqb-true, or-cases, and-left, and-right, within-true, digit-small}
+use Rattle.rules.proofs.NumberParts.{joins, digits-digit, digits-join, digits-stop, fraction-dot, fraction-none, prefix-size, fraction-least, power-well, power-wrong, exponent-none, exponent-some, figures-local}
 
 -- the first n characters are there and are ASCII
 abbrev pub Lead : ℕ → List Char → Type 0

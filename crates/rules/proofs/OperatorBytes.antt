@@ -3,7 +3,7 @@ use Prim.Native.Nat.{ℕ, zero, suc, _+_, _≤_, _<_}
 use native.Mathlib.Omega.{arith}
 use borrow.Author.Tests.{ne-eqb}
 use mathlib.Core.Path.{_≡_, refl, sym, ap, ap₂, _∙_}
-use mathlib.Core.List.{List, [], _∷_}
+use mathlib.Core.List.{List}
 use mathlib.Core.Bool.{Bool, true, false, _&&_, _||_, and-false}
 use lib.Dec.{eqb}
 use lib.ListN.{length, getD, drop}
@@ -12,7 +12,6 @@ use Rattle.rules.specs.Characters.{less, equals, greater}
 use Rattle.rules.specs.Kinds.{Spaceship}
 use Rattle.rules.specs.Lexeme.{first, two, is}
 use Rattle.rules.specs.Operators.{single, pair, spaceship, operator}
-use Rattle.rules.proofs.Decoding.{chars-ascii}
 use Rattle.rules.proofs.Bytes.{next-value}
 use Rattle.rules.proofs.NumberBytes.{pair-like}
 use Rattle.rules.proofs.Operators.{pair-small, operator-three, operator-two, operator-one}

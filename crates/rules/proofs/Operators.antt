@@ -1,12 +1,12 @@
 -- Rule 2: operators.
-use Prim.Native.Nat.{ℕ, zero, suc, _+_, _-_, _≤_, _<_}
+use Prim.Native.Nat.{ℕ, zero, suc, _+_, _-_, _<_}
 use native.Mathlib.Omega.{arith}
-use mathlib.Core.Path.{_≡_, refl, sym, ap, ap₂, _∙_, subst}
+use mathlib.Core.Path.{_≡_, refl, sym, ap, _∙_}
 use mathlib.Core.List.{List, [], _∷_, _++_}
-use mathlib.Core.Bool.{Bool, true, false, cond, not, _&&_, _||_, and-false}
+use mathlib.Core.Bool.{Bool, true, false, _&&_, and-false}
 use mathlib.Core.Logic.{_⊎_, inl, inr}
 use lib.Dec.{eqb}
-use lib.ListN.{length, drop}
+use lib.ListN.{drop}
 use Rattle.rules.specs.Utf8.{Char, width}
 use Rattle.rules.specs.Characters.{exclamation, percent, roundOpen, roundClose, star, plus, comma, dash, dot, slash, colon, semicolon, less, equals, greater, question, at, capitalG, squareOpen, backslash, squareClose, caret, smallG, curlyOpen, bar, curlyClose, minusSign}
 use Rattle.rules.specs.Kinds.{Spaceship}
@@ -14,13 +14,13 @@ use Rattle.rules.specs.Limits.{maskByte}
 use Rattle.rules.specs.Lexeme.{first, two, is}
 use Rattle.rules.specs.Operators.{single, pair, spaceship, operator}
 use Rattle.rules.specs.Tokens.{rule, others, read, lexemeOf}
-use Rattle.rules.proofs.Reading.{flatten, widths, Read}
-use Rattle.rules.proofs.Proper.{Proper, Propers, propers, one-wide}
-use Rattle.rules.proofs.Masks.{Kept, none, next, kept-first, kept-second}
+use Rattle.rules.proofs.Reading.{Read}
+use Rattle.rules.proofs.Proper.{propers, one-wide}
+use Rattle.rules.proofs.Masks.{Kept, kept-first, kept-second}
 use Rattle.rules.proofs.Step.{Step}
 use Rattle.rules.proofs.Rules.{lexeme-by, plain, plain-step, cond-rule, two-true}
 use Rattle.rules.proofs.Runs.{rule-kept}
-use Rattle.rules.proofs.Tests.{clash, eqb-true, and-left, and-right, or-cases}
+use Rattle.rules.proofs.Tests.{eqb-true, and-left, and-right, or-cases}
 
 single-plain : (a : ℕ) → plain (single a) ≡ true
 unfolding single

@@ -9,7 +9,6 @@ use lib.ListN.{length, getD}
 use borrow.Author.Tests.{ltb-false, eqb-true, not-false}
 use Rattle.rules.specs.Utf8.{utf8Tail}
 use Rattle.rules.specs.Kinds.{hidingKind, someKind}
-use Rattle.rules.specs.Limits.{maxQuerySize}
 use Rattle.rules.specs.Answers.{Done, TooLong, NoPart, OtherLength, tooLong, noPart, Part, refusedPart, partOf, tokenText, shownText}
 use Rattle.rules.proofs.Tests.{clash, cond-ind}
 

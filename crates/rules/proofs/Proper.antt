@@ -1,10 +1,10 @@
 -- A character that is read from a text depends on its own bytes; what its code says of its bytes.
 use Prim.Native.Nat.{ℕ, zero, suc, _+_, _-_, _%_, _≤_, _<_}
 use native.Mathlib.Omega.{arith}
-use mathlib.Core.Path.{_≡_, refl, sym, ap, ap₂, _∙_, subst}
+use mathlib.Core.Path.{_≡_, refl, sym, ap, _∙_, subst}
 use mathlib.Core.List.{List, [], _∷_, _++_}
 use mathlib.Core.Logic.{_⊎_, inl, inr}
-use lib.ListN.{length, getD, take, drop, length-append, length-take}
+use lib.ListN.{length, getD, take, length-take}
 use Rattle.rules.specs.Utf8.{formed, wellFormed, codeOf, Char, width, charOf, charAt}
 use Rattle.rules.specs.Limits.{maskByte}
 use Rattle.rules.proofs.Reading.{flatten, Read}

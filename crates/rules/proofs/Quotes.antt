@@ -1,11 +1,11 @@
 -- Rule 4: the five quotes.
-use Prim.Native.Nat.{ℕ, zero, suc, _+_, _-_, _≤_, _<_}
+use Prim.Native.Nat.{ℕ, _+_, _-_, _≤_, _<_}
 use native.Mathlib.Omega.{arith}
 use native.Mathlib.Nat.{add-zero}
-use mathlib.Core.Path.{_≡_, refl, sym, ap, ap₂, _∙_, subst}
-use mathlib.Core.List.{List, [], _∷_, _++_, append-assoc, append-nil}
-use mathlib.Core.Bool.{Bool, true, false, cond, not, _&&_, _||_}
-use lib.Dec.{eqb, leb}
+use mathlib.Core.Path.{_≡_, refl, sym, ap, _∙_, subst}
+use mathlib.Core.List.{List, [], _∷_, _++_}
+use mathlib.Core.Bool.{Bool, true, false}
+use lib.Dec.{eqb}
 use lib.ListN.{length, getD, List·getD-append}
 use Rattle.rules.specs.Utf8.{Char, width}
 use Rattle.rules.specs.Characters.{doubleQuote, quote, backslash, backQuote, quoteOpen, quoteClose, doubleQuoteOpen, doubleQuoteClose}
@@ -15,13 +15,13 @@ use Rattle.rules.specs.Lexeme.{first, Body, further, closedBy, openTo, e
 use Rattle.rules.specs.Quotes.{quotedBody, upTo}
 use Rattle.rules.specs.Tokens.{rule, Rule, quoted, doubleQuoted, backQuoted, curlyQuoted, curlyDoubleQuoted, read, lexemeOf}
 use Rattle.rules.specs.Masking.{quoteWidth, front, back}
-use Rattle.rules.proofs.Reading.{flatten, widths, Read}
-use Rattle.rules.proofs.Proper.{Proper, Propers, propers, propers-left, propers-right, one-byte, one-wide}
-use Rattle.rules.proofs.Masks.{Masks, Kept, none, hash, hashes}
+use Rattle.rules.proofs.Reading.{widths, Read}
+use Rattle.rules.proofs.Proper.{Proper, Propers, propers, propers-right, one-wide}
+use Rattle.rules.proofs.Masks.{hash}
 use Rattle.rules.proofs.Step.{Step}
 use Rattle.rules.proofs.Rules.{lexeme-by, plain, rule-first}
 use Rattle.rules.proofs.Delimited.{Shape, unclosed, closing, more, open-hashes, shut-hashes, open-step, shut-step, shown-step}
-use Rattle.rules.proofs.Tests.{clash, eqb-true, eqb-same, le-true, lt-false}
+use Rattle.rules.proofs.Tests.{eqb-true, eqb-same, le-true, lt-false}
 
 -- a delimiter of one character
 abbrev Is : ℕ → Char → List Char → Type 0

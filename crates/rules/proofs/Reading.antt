@@ -1,11 +1,10 @@
 -- A text is the bytes of its characters: `chars` and `flatten` undo each other.
-use Prim.Native.Nat.{ℕ, zero, suc, _+_, _-_, _≤_, _<_}
+use Prim.Native.Nat.{ℕ, zero, suc, _+_, _-_, _<_}
 use native.Mathlib.Omega.{arith}
 use native.Mathlib.Numerals.{sub-one}
 use mathlib.Core.Path.{_≡_, refl, sym, ap, _∙_}
 use mathlib.Core.List.{List, [], _∷_, _++_, append-assoc}
-use lib.ListN.{length, take, drop, length-append, take-append-drop}
-use lib.Seq.{drop-append-seam}
+use lib.ListN.{length, take, drop, length-append}
 use Rattle.rules.specs.Utf8.{Char, width, charOf, charAt, charsAfter, chars}
 
 abbrev pub flatten : List Char → List ℕ

@@ -4,7 +4,7 @@ use native.Mathlib.Omega.{arith}
 use borrow.Author.Tests.{ne-eqb, lt-leb}
 use mathlib.Core.Path.{_≡_, refl, sym, ap, ap₂, _∙_}
 use mathlib.Core.List.{List, [], _∷_}
-use mathlib.Core.Bool.{Bool, true, false, cond, _&&_, _||_, and-false}
+use mathlib.Core.Bool.{Bool, true, false, _&&_, _||_, and-false}
 use lib.Dec.{leb, eqb}
 use lib.ListN.{length, getD, drop}
 use lib.Seq.{getD-drop}
@@ -13,8 +13,8 @@ use Rattle.rules.specs.Utf8.{Char, width, charAt, chars}
 use Rattle.rules.specs.Tables.{whiteSpaceTable}
 use Rattle.rules.specs.Classes.{inRanges, whiteSpace, letter, digit}
 use Rattle.rules.specs.Characters.{exclamation, doubleQuote, dollar, percent, quote, roundOpen, roundClose, star, plus, comma, dash, dot, slash, colon, semicolon, less, equals, greater, question, at, squareOpen, squareClose, caret, underscore, backQuote, curlyOpen, bar, curlyClose, quoteOpen, quoteClose, doubleQuoteOpen, doubleQuoteClose, minusSign}
-use Rattle.rules.specs.Kinds.{Whitespace, Comment, BareWord, StringToken, QuotedIdentifier, Minus, EndOfStream, ErrorMultilineCommentIsNotClosed, ErrorSingleQuoteIsNotClosed, ErrorDoubleQuoteIsNotClosed, ErrorBackQuoteIsNotClosed, ErrorToken}
-use Rattle.rules.specs.Lexeme.{first, two, Lexeme, is, run, enclosed}
+use Rattle.rules.specs.Kinds.{Whitespace, Comment, BareWord, StringToken, QuotedIdentifier, EndOfStream, ErrorMultilineCommentIsNotClosed, ErrorSingleQuoteIsNotClosed, ErrorDoubleQuoteIsNotClosed, ErrorBackQuoteIsNotClosed, ErrorToken}
+use Rattle.rules.specs.Lexeme.{first, two, is, run, enclosed}
 use Rattle.rules.specs.Spaces.{notLineFeed, commentBody}
 use Rattle.rules.specs.Operators.{single, pair, spaceship, operator}
 use Rattle.rules.specs.Words.{startsWord, wordCharacter}
@@ -22,7 +22,7 @@ use Rattle.rules.specs.Quotes.{quotedBody, upTo}
 use Rattle.rules.specs.Dollars.{hereDoc, dollarLexeme}
 use Rattle.rules.specs.Numbers.{number}
 use Rattle.rules.specs.Tokens.{Rule, spaces, dashes, slashStar, numeral, letters, quoted, doubleQuoted, backQuoted, curlyQuoted, curlyDoubleQuoted, dollars, others, rule, read, lexemeOf, lexeme}
-use Rattle.rules.proofs.Tests.{clash, eqb-true, and-left, and-right, or-cases, apart}
+use Rattle.rules.proofs.Tests.{clash, eqb-true, and-left, and-right, apart}
 use Rattle.rules.proofs.Tables.{agree, agree-at, ascii-alphanumeric}
 use Rattle.rules.proofs.Decoding.{chars-at, chars-ascii, chars-end, code-high, within-text}
 use Rattle.rules.proofs.Bytes.{next-is}

@@ -1,12 +1,11 @@
 -- Why a rule applies, and the two ways to make a step: of a kind that hides nothing, and of one that hides a middle part.
-use Prim.Native.Nat.{ℕ, zero, suc, _+_, _-_, _≤_, _<_}
+use Prim.Native.Nat.{ℕ, _+_, _-_, _<_}
 use native.Mathlib.Omega.{arith}
-use mathlib.Core.Path.{_≡_, refl, sym, ap, ap₂, _∙_, subst}
+use mathlib.Core.Path.{_≡_, refl, sym, ap, _∙_}
 use mathlib.Core.List.{List, [], _∷_, _++_, append-assoc, append-nil}
-use mathlib.Core.Bool.{Bool, true, false, cond, not, _&&_, _||_}
-use mathlib.Core.Logic.{_⊎_, inl, inr}
+use mathlib.Core.Bool.{Bool, true, false, cond, not, _||_}
 use lib.Dec.{eqb}
-use lib.ListN.{length, take, drop, replicate, length-append}
+use lib.ListN.{length, replicate, length-append}
 use lib.Seq.{take-length, drop-length, take-append-seam, drop-append-seam, drop-append-add}
 use Rattle.rules.specs.Utf8.{within, Char, width}
 use Rattle.rules.specs.Tables.{whiteSpaceTable}
@@ -19,7 +18,7 @@ use Rattle.rules.specs.Tokens.{rule, Rule, spaces, dashes, slashStar, nu
 use Rattle.rules.specs.Masking.{front, back, maskToken}
 use Rattle.rules.proofs.Reading.{flatten, widths, flatten-append, widths-append, length-flatten}
 use Rattle.rules.proofs.Proper.{Propers}
-use Rattle.rules.proofs.Masks.{Masks, Kept, none, next, hashes, masks-refl, masks-append, masks-all, flatten-hashes, kept-refl}
+use Rattle.rules.proofs.Masks.{Kept, hashes, masks-refl, masks-append, masks-all, flatten-hashes, kept-refl}
 use Rattle.rules.proofs.Step.{Step, lastDot}
 use Rattle.rules.proofs.Tests.{eqb-true, clash, and-left, and-right}
 

@@ -1,12 +1,11 @@
 -- Runs: white space, words and the comments that `--` opens.
-use Prim.Native.Nat.{ℕ, zero, suc, _+_, _-_, _≤_, _<_}
+use Prim.Native.Nat.{ℕ, zero, suc, _+_, _-_}
 use native.Mathlib.Omega.{arith}
-use mathlib.Core.Path.{_≡_, refl, sym, ap, ap₂, _∙_, subst}
-use mathlib.Core.List.{List, [], _∷_, _++_, append-assoc}
-use mathlib.Core.Bool.{Bool, true, false, cond, not, _&&_, _||_}
+use mathlib.Core.Path.{_≡_, refl, sym, ap, _∙_, subst}
+use mathlib.Core.List.{List, [], _∷_, _++_}
+use mathlib.Core.Bool.{Bool, true, false, not, _||_}
 use mathlib.Core.Logic.{_⊎_, inl, inr}
 use lib.Dec.{eqb}
-use lib.ListN.{length}
 use Rattle.rules.specs.Utf8.{Char, width}
 use Rattle.rules.specs.Classes.{whiteSpace, alphanumeric, letter, digit}
 use Rattle.rules.specs.Characters.{lineFeed, dash, underscore}
@@ -17,9 +16,9 @@ use Rattle.rules.specs.Spaces.{notLineFeed}
 use Rattle.rules.specs.Words.{wordCharacter}
 use Rattle.rules.specs.Tokens.{rule, Rule, spaces, dashes, letters, read, lexemeOf}
 use Rattle.rules.specs.Masking.{front, back}
-use Rattle.rules.proofs.Reading.{flatten, widths, Read}
-use Rattle.rules.proofs.Proper.{Proper, Propers, propers, propers-left, propers-right, one-byte}
-use Rattle.rules.proofs.Masks.{Masks, Kept, none, next, hash, hashes, kept-refl, kept-first-append}
+use Rattle.rules.proofs.Reading.{widths, Read}
+use Rattle.rules.proofs.Proper.{Propers, propers, propers-left, one-byte}
+use Rattle.rules.proofs.Masks.{Kept, none, next, hashes, kept-refl, kept-first-append}
 use Rattle.rules.proofs.Step.{Step}
 use Rattle.rules.proofs.Rules.{lexeme-by, plain-step, hiding-step}
 use Rattle.rules.proofs.Tables.{letter-alphanumeric}

@@ -1,9 +1,8 @@
 -- One token of a text and its masked copy: what the proof of `relex` asks of each rule.
-use Prim.Native.Nat.{ℕ, zero, suc, _+_, _-_, _≤_, _<_}
-use mathlib.Core.Path.{_≡_, refl, sym, ap, _∙_}
+use Prim.Native.Nat.{ℕ, _+_, _≤_}
+use mathlib.Core.Path.{_≡_}
 use mathlib.Core.List.{List, [], _∷_, _++_}
 use mathlib.Core.Bool.{Bool, true, false}
-use lib.Dec.{eqb}
 use Rattle.rules.specs.Utf8.{Char, width}
 use Rattle.rules.specs.Classes.{digit}
 use Rattle.rules.specs.Characters.{dot}

@@ -2,13 +2,13 @@
 use Prim.Native.Nat.{ℕ, _+_, _≤_, _<_}
 use native.Mathlib.Decide.{decLt}
 use native.Mathlib.Omega.{arith}
-use mathlib.Core.Path.{_≡_, ap}
+use mathlib.Core.Path.{_≡_}
 use mathlib.Core.List.{List}
 use borrow.Author.Tests.{lt-ltb, le-ltb}
 use lib.ListN.{length, drop}
 use Rattle.rules.specs.Limits.{maxQuerySize}
 use Rattle.rules.specs.Tokens.{afterDotAt, lexeme, tokenAt}
-use Rattle.rules.specs.Answers.{Done, TooLong, Beyond, Stepped, refusedStep, step}
+use Rattle.rules.specs.Answers.{Done, TooLong, Beyond, refusedStep, step}
 use Rattle.rules.proofs.Edges.{step-fits}
 use Rattle.rules.proofs.RuleBytes.{at-end}
 

@@ -7,7 +7,7 @@ use mathlib.Core.Bool.{Bool, true, false, _&&_, _||_, Bool·beq, or-true, and-fa
 use mathlib.Core.Logic.{⊎-elim}
 use native.Mathlib.Omega.{arith}
 use native.Mathlib.Nat.{not-suc-le-zero, le-of-suc-le-suc, eq-or-lt-of-le}
-use borrow.Author.Tests.{leb-true, le-ltb}
+use borrow.Author.Tests.{le-ltb}
 use lib.Dec.{leb, ltb, eqb, leb·zero, leb·suc-zero, leb·suc-suc, eqb·zero-suc, eqb·suc-zero, eqb·suc-suc}
 use Rattle.rules.specs.Utf8.{within, noCode}
 use Rattle.rules.specs.Tables.{whiteSpaceTable, alphabeticTable, numericTable}

@@ -1,10 +1,10 @@
 -- Tests as equations.
-use Prim.Native.Nat.{ℕ, zero, suc, _+_, _-_, _≤_, _<_}
+use Prim.Native.Nat.{ℕ, _-_, _≤_, _<_}
 use native.Mathlib.Omega.{arith}
 use mathlib.Core.Path.{_≡_, refl, sym, ap, _∙_, subst}
 use mathlib.Core.Bool.{Bool, true, false, _&&_, _||_, cond, true≢false}
 use mathlib.Core.Logic.{_⊎_, inl, inr}
-use lib.Dec.{T, leb, eqb, leb→le, le→leb, nleb→lt, eqb→eq, eqb-refl}
+use lib.Dec.{T, leb, eqb, leb→le, le→leb, eqb→eq, eqb-refl}
 use Rattle.rules.specs.Utf8.{within}
 use Rattle.rules.specs.Classes.{letter, digit}
 use Rattle.rules.specs.Characters.{underscore}

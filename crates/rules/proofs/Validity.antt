@@ -3,14 +3,14 @@ use Prim.Native.Nat.{ℕ, zero, suc, _+_, _-_, _≤_, _<_}
 use native.Mathlib.Omega.{arith}
 use mathlib.Core.Path.{_≡_, refl, sym, ap, _∙_, subst}
 use mathlib.Core.List.{List, [], _∷_, _++_}
-use mathlib.Core.Bool.{Bool, true, false}
+use mathlib.Core.Bool.{true}
 use lib.Dec.{eqb}
-use lib.ListN.{length, getD, take, length-append, length-take}
+use lib.ListN.{length, length-append, length-take}
 use Rattle.rules.specs.Utf8.{formed, wellFormed, Char, width, charOf, charAt, validAfter, valid}
 use Rattle.rules.proofs.Decoding.{form-of}
 use Rattle.rules.proofs.Reading.{flatten, Read}
-use Rattle.rules.proofs.Proper.{formed-same, size-is, Under}
-use Rattle.rules.proofs.Masks.{Masks, end, keep, hide, hash, hashes, masks-under}
+use Rattle.rules.proofs.Proper.{formed-same, size-is}
+use Rattle.rules.proofs.Masks.{Masks, end, keep, hide, hashes, masks-under}
 use Rattle.rules.proofs.Tests.{eqb-true, eqb-same}
 
 abbrev pub Formed : List Char → Type 0

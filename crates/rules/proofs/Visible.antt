@@ -1,7 +1,7 @@
 -- Which bytes of a token are hidden depends on its kind, its length and the bytes that are not; the masked copy by bytes.
 use Prim.Native.Nat.{ℕ, zero, suc, _+_, _-_, _≤_, _<_, min}
 use native.Mathlib.Omega.{arith}
-use native.Mathlib.Nat.{le-of-suc-le-suc, suc-inj}
+use native.Mathlib.Nat.{suc-inj}
 use mathlib.Core.Path.{_≡_, refl, sym, ap, ap₂, _∙_, subst}
 use mathlib.Core.List.{List, [], _∷_, _++_}
 use mathlib.Core.Bool.{Bool, true, false, not, cond, _&&_, _||_, and-false}
@@ -14,7 +14,7 @@ use Rattle.rules.specs.Kinds.{Comment, StringToken, HereDoc, ErrorMultil
 use Rattle.rules.specs.Limits.{maskByte}
 use Rattle.rules.specs.Tokens.{Token}
 use Rattle.rules.specs.Masking.{quoteWidth, beforeDollar, tagWidth, front, back, maskToken, maskTokens, hiddenAt, hiddenIn}
-use Rattle.rules.proofs.Tests.{clash, eqb-true, le-true, lt-false, leb-true, and-left, and-right, cond-ind}
+use Rattle.rules.proofs.Tests.{eqb-true, le-true, lt-false, leb-true, cond-ind}
 
 lt-of-leb : (m n : ℕ) → leb m n ≡ false → n < m
 lt-of-leb m n e = nleb→lt m n (subst (λ (b : Bool). T (not b)) (sym e) tt)

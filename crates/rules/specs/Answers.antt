@@ -1,9 +1,9 @@
 -- Document 01, "Numbers that come back": for each entry point, what it answers and what each lent buffer holds afterwards.
-use Prim.Native.Nat.{ℕ, zero, suc, _-_}
+use Prim.Native.Nat.{ℕ, _-_}
 use mathlib.Core.List.{List, [], _∷_, _++_}
-use mathlib.Core.Bool.{Bool, true, false, not, cond, _||_}
+use mathlib.Core.Bool.{Bool, not, cond, _||_}
 use lib.ListN.{length, getD, take, drop}
-use lib.Dec.{leb, ltb, eqb}
+use lib.Dec.{ltb, eqb}
 use Rattle.rules.specs.Utf8.{utf8Tail, validLength, valid}
 use Rattle.rules.specs.Kinds.{NoToken, EndOfStream, ErrorMaxQuerySizeExceeded, hidingKind, someKind}
 use Rattle.rules.specs.Limits.{maxQuerySize}

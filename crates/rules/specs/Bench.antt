@@ -2,7 +2,7 @@
 use Prim.Native.Nat.{ℕ}
 use mathlib.Core.Path.{_≡_}
 use mathlib.Core.List.{List, [], _∷_}
-use Rattle.rules.specs.Kinds.{Comment, Number, BareWord, StringToken, HereDoc, Dot, DollarSign, Equals, Spaceship, ErrorMultilineCommentIsNotClosed, ErrorWrongNumber}
+use Rattle.rules.specs.Kinds.{Number, BareWord, StringToken, HereDoc, Dot, DollarSign, Equals, Spaceship, ErrorMultilineCommentIsNotClosed, ErrorWrongNumber}
 use Rattle.rules.specs.Tokens.{Token, token, tokens}
 use Rattle.rules.specs.Masking.{masked}
 

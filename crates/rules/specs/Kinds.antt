@@ -1,6 +1,6 @@
 -- Document 01, "What the library offers": "Kind numbers are ours".
 use Prim.Native.Nat.{ℕ}
-use mathlib.Core.Bool.{Bool, true, false, _||_}
+use mathlib.Core.Bool.{Bool, _||_}
 use lib.Dec.{eqb}
 use Rattle.rules.specs.Utf8.{within}
 

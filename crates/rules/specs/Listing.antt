@@ -1,5 +1,5 @@
 -- Document 01, "What the library offers": the lists, full, lean and up to a position, and how a list is packed.
-use Prim.Native.Nat.{ℕ, zero, suc, _*_, _/_, _%_}
+use Prim.Native.Nat.{ℕ, _/_, _%_}
 use mathlib.Core.List.{List, [], _∷_, _++_}
 use mathlib.Core.Bool.{Bool, true, false, not, cond, _||_}
 use lib.ListN.{length}

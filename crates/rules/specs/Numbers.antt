@@ -1,5 +1,5 @@
 -- Rules 6 and 7: numbers, and words that start with one. Every character of a number is one byte long, so the bytes read are the characters read.
-use Prim.Native.Nat.{ℕ, zero, suc, _+_}
+use Prim.Native.Nat.{ℕ, suc, _+_}
 use mathlib.Core.List.{List, [], _∷_}
 use mathlib.Core.Bool.{Bool, true, false, cond, _&&_, _||_}
 use lib.ListN.{take, drop}

@@ -1,6 +1,6 @@
 -- Rule 2: brackets, punctuation and operators.
 use Prim.Native.Nat.{ℕ, zero, suc}
-use mathlib.Core.List.{List, [], _∷_}
+use mathlib.Core.List.{List}
 use mathlib.Core.Bool.{Bool, true, false, cond, _&&_, _||_}
 use lib.ListN.{drop}
 use lib.Dec.{eqb}

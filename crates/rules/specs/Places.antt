@@ -1,7 +1,7 @@
 -- Document 01, "Hidden bytes and places": the place of a byte offset.
-use Prim.Native.Nat.{ℕ, zero, suc}
+use Prim.Native.Nat.{ℕ, suc}
 use mathlib.Core.List.{List, [], _∷_}
-use mathlib.Core.Bool.{Bool, true, false}
+use mathlib.Core.Bool.{true, false}
 use lib.ListN.{take}
 use lib.Dec.{eqb}
 use Rattle.rules.specs.Characters.{lineFeed}

@@ -1,7 +1,7 @@
 -- Rule 1: white space and comments.
 use Prim.Native.Nat.{ℕ, zero, suc}
 use mathlib.Core.List.{List, [], _∷_}
-use mathlib.Core.Bool.{Bool, true, false, not, _&&_}
+use mathlib.Core.Bool.{Bool, true, false, not}
 use lib.Dec.{eqb}
 use Rattle.rules.specs.Utf8.{Char, width}
 use Rattle.rules.specs.Classes.{whiteSpace}

@@ -1,7 +1,7 @@
 -- The token that a text begins with: which of the rules 1 to 7 reads it, by its first two characters; and the full list.
 use Prim.Native.Nat.{ℕ, zero, suc, _+_, _-_}
 use mathlib.Core.List.{List, [], _∷_}
-use mathlib.Core.Bool.{Bool, true, false, cond}
+use mathlib.Core.Bool.{Bool, false, cond}
 use lib.ListN.{getD, drop}
 use lib.Dec.{eqb}
 use Rattle.rules.specs.Utf8.{Char, width, chars}

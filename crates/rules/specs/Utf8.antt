@@ -2,7 +2,7 @@
 -- A text is a list of bytes. A byte past its end reads as 0, which is no UTF8-tail, so no rule asks for a length.
 use Prim.Native.Nat.{ℕ, zero, suc, _+_, _-_, _*_, _%_}
 use mathlib.Core.List.{List, [], _∷_}
-use mathlib.Core.Bool.{Bool, true, false, cond, _&&_, _||_}
+use mathlib.Core.Bool.{Bool, cond, _&&_, _||_}
 use lib.ListN.{length, getD, take}
 use lib.Dec.{leb, eqb}
 

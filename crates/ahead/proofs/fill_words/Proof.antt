@@ -1,11 +1,10 @@
 -- `ahead::fill_words` meets its contract. The invariant: the words so far mark none wrongly. The measure is how many are left. Assumes nothing.
-use Prim.Native.Nat.{ℕ, _+_, _*_, _-_, _≤_, _<_}
+use Prim.Native.Nat.{ℕ, _+_, _-_, _≤_}
 use native.Mathlib.Omega.{arith}
-use mathlib.Core.Path.{_≡_, refl, sym, ap, _∙_, subst}
+use mathlib.Core.Path.{_≡_, sym, _∙_, subst}
 use mathlib.Core.Logic.{⊎-elim}
 use mathlib.Core.List.{List}
 use denote.Ref.{now}
-use borrow.Author.Needs.{needs}
 use lib.ListN.{length, length-set}
 use Rattle.rules.proofs.Tests.{clash}
 use Rattle.ahead.specs.Marks.{windowWords, LoneWords}

@@ -3,12 +3,10 @@ use Prim.Native.Nat.{_-_}
 use native.Mathlib.Omega.{arith}
 use mathlib.Core.Path.{_≡_, refl, sym, _∙_}
 use mathlib.Core.Logic.{⊎-elim}
-use mathlib.Core.Bool.{true}
 use denote.Ref.{now}
 use borrow.Author.Needs.{needs}
 use borrow.Author.Tests.{not-false}
 use lib.ListN.{length, length-set}
-use Rattle.rules.specs.Dollars.{tagByte}
 use Rattle.ahead.proofs.grow.Statement.{statement}
 use Rattle.ahead.proofs.grow.Tie as tie
 

@@ -1,12 +1,11 @@
 -- `ahead::is_lone` meets its contract: a tag is not closed, or not seen after its own end. Assumes nothing.
-use Prim.Native.Nat.{ℕ, _≤_, _<_}
+use Prim.Native.Nat.{_<_}
 use native.Mathlib.Omega.{arith}
-use mathlib.Core.Path.{_≡_, refl, sym, ap, _∙_}
+use mathlib.Core.Path.{refl, sym, _∙_}
 use denote.Ref.{now}
 use borrow.Author.Needs.{needs}
 use borrow.Author.Tests.{leb-true}
 use lib.ListN.{length, getD}
-use Rattle.rules.specs.Characters.{dollar}
 use Rattle.rules.proofs.Tests.{clash}
 use Rattle.rules.proofs.Decoding.{within-text}
 use Rattle.lexer.proofs.HereDocs.{not-closed}

@@ -1,5 +1,4 @@
 use Prim.Native.Nat.{_*_}
-use native.Mathlib.Omega.{arith}
 use borrow.Author.Needs.{needs}
 use borrow.Author.Tests.{lt-ltb, le-ltb, le-leb, lt-leb}
 use Rattle.ahead.specs.Marks.{windowWords}

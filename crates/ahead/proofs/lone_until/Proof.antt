@@ -1,12 +1,10 @@
 -- `ahead::lone_until` meets its contract. The invariant: no `$` so far begins a here-document. The measure is what is left of the text. Assumes nothing.
-use Prim.Native.Nat.{ℕ, _+_, _-_, _≤_, _<_}
+use Prim.Native.Nat.{_-_, _≤_}
 use native.Mathlib.Omega.{arith}
-use mathlib.Core.Path.{_≡_, refl, sym, ap, _∙_}
 use mathlib.Core.Logic.{⊎-elim}
 use denote.Ref.{now}
-use borrow.Author.Needs.{needs}
 use borrow.Author.Tests.{not-false}
-use lib.ListN.{length, getD}
+use lib.ListN.{length}
 use Rattle.ahead.specs.Marks.{Lone, LoneUntil}
 use Rattle.ahead.proofs.Bits.{lone-more}
 use Rattle.ahead.proofs.lone_until.Statement.{statement}

@@ -1,17 +1,13 @@
 -- `ahead::next_token` meets its contract: a `$` that is marked begins no here-document, and every other token is read. Assumes nothing.
-use Prim.Native.Nat.{ℕ, _+_, _≤_, _<_}
 use native.Mathlib.Omega.{arith}
-use mathlib.Core.Path.{_≡_, refl, sym, ap, _∙_}
+use mathlib.Core.Path.{_≡_, sym, ap, _∙_}
 use denote.Ref.{now}
 use borrow.Author.Needs.{needs}
-use lib.ListN.{length, getD, drop}
-use Rattle.rules.specs.Utf8.{chars}
+use lib.ListN.{getD}
 use Rattle.rules.specs.Characters.{dollar}
-use Rattle.rules.specs.Lexeme.{Lexeme}
-use Rattle.rules.specs.Dollars.{hereDoc, dollarLexeme}
-use Rattle.rules.specs.Tokens.{lexeme, afterDotAt}
+use Rattle.rules.specs.Dollars.{dollarLexeme}
+use Rattle.rules.specs.Tokens.{afterDotAt}
 use Rattle.rules.proofs.RuleBytes.{by-dollar}
-use Rattle.lexer.specs.declared.tokenizer.Lexed.{Lexed}
 use Rattle.lexer.specs.Ends.{endsAt}
 use Rattle.ahead.proofs.next_token.Statement.{statement}
 use Rattle.ahead.proofs.next_token.Tie as tie

@@ -1,5 +1,5 @@
 -- `ahead::note` meets its contract. The invariant: every `$` so far is noted. The measure is what is left of the text. Assumes nothing.
-use Prim.Native.Nat.{ℕ, _+_, _-_, _≤_}
+use Prim.Native.Nat.{ℕ, _+_, _-_}
 use native.Mathlib.Omega.{arith}
 use mathlib.Core.Path.{_≡_, refl, sym, subst}
 use mathlib.Core.List.{List}

@@ -1,12 +1,10 @@
 -- `ahead::word_at` meets its contract. The invariant: the bits so far stand for the offsets from k on. The measure is how many are left. Assumes nothing.
-use Prim.Native.Nat.{ℕ, _+_, _*_, _-_, _^_, _≤_, _<_}
+use Prim.Native.Nat.{ℕ, _+_, _-_, _^_, _≤_, _<_}
 use native.Mathlib.Omega.{arith}
-use mathlib.Core.Path.{_≡_, refl, sym, ap, _∙_, subst}
+use mathlib.Core.Path.{_≡_, subst}
 use mathlib.Core.Logic.{⊎-elim}
 use mathlib.Core.Bool.{true}
 use denote.Ref.{now}
-use borrow.Author.Needs.{needs}
-use lib.ListN.{length}
 use Rattle.rules.proofs.Tests.{clash}
 use Rattle.ahead.specs.Marks.{Lone, bit}
 use Rattle.ahead.proofs.Bits.{bit-none, word-more, size-more}

@@ -1,7 +1,6 @@
 -- ASCII's part is a law of the tables; past ASCII the tables are the definition's, as the search in them asks.
 -- Assumes nothing.
-use mathlib.Core.Path.{_≡_, sym}
-use mathlib.Core.Bool.{_||_}
+use mathlib.Core.Path.{sym}
 use Rattle.rules.proofs.Tables.{ascii-alphanumeric}
 use borrow.Author.Needs.{needs}
 use Rattle.classes.proofs.is_alphanumeric.Statement.{statement}

@@ -1,7 +1,6 @@
 -- `replay::replay` is safe and ends. The invariant: no count is more than the bytes read, so no sum overflows. The measure is the bytes left. Assumes nothing.
 use Prim.Native.Nat.{_-_, _≤_}
 use lib.ListN.{length}
-use native.Mathlib.Omega.{arith}
 use borrow.Author.Needs.{needs}
 use Rattle.replay.proofs.replay.Statement.{statement}
 use Rattle.replay.proofs.replay.Tie as tie

@@ -1,5 +1,4 @@
 -- The code at the unit is the first character's. Assumes nothing.
-use Prim.Native.Nat.{ℕ}
 use borrow.Author.Needs.{needs}
 use mathlib.Core.Path.{ap, _∙_}
 use mathlib.Core.Bool.{Bool, _||_}

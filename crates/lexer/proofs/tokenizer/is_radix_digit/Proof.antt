@@ -1,6 +1,5 @@
 -- By the radix. Assumes nothing.
 use borrow.Author.Needs.{needs}
-use mathlib.Core.Path.{_∙_}
 use Rattle.lexer.proofs.tokenizer.is_radix_digit.Statement.{statement}
 use Rattle.lexer.proofs.tokenizer.is_radix_digit.Tie as tie
 

@@ -1,5 +1,5 @@
 -- One byte a turn, each of them a word's. Assumes nothing.
-use Prim.Native.Nat.{ℕ, _+_, _-_, _≤_, _<_}
+use Prim.Native.Nat.{_+_, _-_, _≤_, _<_}
 use native.Mathlib.Omega.{arith}
 use borrow.Author.Tests.{not-true, not-false, lt-ltb}
 use mathlib.Core.Path.{_≡_, refl, sym, ap, _∙_}

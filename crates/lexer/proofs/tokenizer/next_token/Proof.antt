@@ -8,7 +8,7 @@ use mathlib.Core.List.{List}
 use mathlib.Core.Bool.{Bool}
 use denote.Ref.{now}
 use lib.ListN.{getD}
-use Rattle.rules.specs.Classes.{whiteSpace, digit}
+use Rattle.rules.specs.Classes.{whiteSpace}
 use Rattle.rules.specs.Words.{wordCharacter}
 use Rattle.rules.specs.Tokens.{afterDotAt}
 use Rattle.rules.proofs.RuleBytes.{starts, at-end, by-spaces, by-numeral, by-letters}

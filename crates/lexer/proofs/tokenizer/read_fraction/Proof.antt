@@ -1,5 +1,5 @@
 -- A dot stands there, or none. Assumes nothing.
-use Prim.Native.Nat.{ℕ, _+_}
+use Prim.Native.Nat.{ℕ}
 use mathlib.Core.Path.{ap}
 use lib.Dec.{eqb}
 use native.Mathlib.Omega.{arith}

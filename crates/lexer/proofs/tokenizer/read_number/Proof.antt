@@ -1,5 +1,5 @@
 -- After a dot digits only; else the opening, the whole part, the fraction and the exponent. Assumes nothing.
-use Prim.Native.Nat.{ℕ, _+_, _≤_, _<_}
+use Prim.Native.Nat.{ℕ, _+_, _≤_}
 use native.Mathlib.Omega.{arith}
 use borrow.Author.Needs.{needs}
 use borrow.Author.Tests.{not-true, not-false}
@@ -9,7 +9,6 @@ use mathlib.Core.Bool.{Bool, true, false}
 use denote.Ref.{now}
 use lib.ListN.{drop}
 use Rattle.rules.specs.Utf8.{Char, chars}
-use Rattle.rules.specs.Classes.{digit}
 use Rattle.rules.specs.Tokens.{afterDotAt}
 use Rattle.rules.specs.Numbers.{digits, opening, radixDigit, fraction, Figures, exponent, figures}
 use Rattle.rules.specs.Lexeme.{first}

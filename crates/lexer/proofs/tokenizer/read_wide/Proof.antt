@@ -1,16 +1,16 @@
 -- By the code of the character, or of none. Assumes nothing.
-use Prim.Native.Nat.{ℕ, _+_, _≤_, _<_}
+use Prim.Native.Nat.{ℕ, _+_}
 use native.Mathlib.Omega.{arith}
 use borrow.Author.Needs.{needs}
-use mathlib.Core.Path.{_≡_, refl, sym, ap, _∙_}
+use mathlib.Core.Path.{_≡_, sym, ap, _∙_}
 use mathlib.Core.List.{List}
 use mathlib.Core.Bool.{Bool}
 use denote.Ref.{now}
-use lib.ListN.{length, drop}
+use lib.ListN.{drop}
 use Rattle.rules.specs.Utf8.{Char, width, charAt, chars}
 use Rattle.rules.specs.Classes.{whiteSpace}
-use Rattle.rules.specs.Characters.{quoteClose, doubleQuoteClose, minusSign}
-use Rattle.rules.specs.Kinds.{StringToken, QuotedIdentifier, Minus, ErrorSingleQuoteIsNotClosed, ErrorDoubleQuoteIsNotClosed, ErrorToken}
+use Rattle.rules.specs.Characters.{quoteClose, doubleQuoteClose}
+use Rattle.rules.specs.Kinds.{StringToken, QuotedIdentifier, ErrorSingleQuoteIsNotClosed, ErrorDoubleQuoteIsNotClosed}
 use Rattle.rules.specs.Lexeme.{first, is, enclosed}
 use Rattle.rules.specs.Operators.{single}
 use Rattle.rules.specs.Quotes.{upTo}

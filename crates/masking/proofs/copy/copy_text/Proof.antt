@@ -7,7 +7,6 @@ use mathlib.Core.List.{List, _++_}
 use denote.Ref.{now}
 use lib.ListN.{length, getD, drop, set}
 use lib.Seq.{take-all}
-use Rattle.rules.specs.Answers.{filled}
 use Rattle.masking.proofs.Copying.{joined, joined-length, joined-more}
 use Rattle.masking.proofs.copy.copy_text.Statement.{statement}
 use Rattle.masking.proofs.copy.copy_text.Tie as tie

@@ -1,6 +1,6 @@
 -- `masking::copy::mask_tokens` meets its contract. The invariant: up to the cursor the copy is masked. The measure is what is left of the text.
 -- Assumes nothing.
-use Prim.Native.Nat.{ℕ, _+_, _-_, _≤_}
+use Prim.Native.Nat.{_+_, _-_, _≤_}
 use native.Mathlib.Nat.{le-of-lt}
 use native.Mathlib.Omega.{arith}
 use mathlib.Core.Path.{_≡_, sym, _∙_}

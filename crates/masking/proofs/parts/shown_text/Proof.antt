@@ -1,14 +1,12 @@
 -- `masking::parts::shown_text` meets its contract: by the number alone, the part is empty or lies in text and copy. Assumes nothing.
 use Prim.Native.Nat.{_≤_}
 use mathlib.Core.Path.{_≡_, sym, ap, _∙_}
-use mathlib.Core.List.{List}
 use mathlib.Core.Bool.{Bool, true, false, cond}
 use denote.Ref.{now}
 use lib.ListN.{length}
 use borrow.Author.Needs.{needs}
-use Rattle.rules.specs.Kinds.{hidingKind}
-use Rattle.rules.specs.Answers.{Part, Done, shownText, partOf}
-use Rattle.rules.proofs.Parts.{Sound, source, shown-sound}
+use Rattle.rules.specs.Answers.{Part, shownText, partOf}
+use Rattle.rules.proofs.Parts.{source, shown-sound}
 use Rattle.masking.proofs.parts.shown_text.Statement.{statement}
 use Rattle.masking.proofs.parts.shown_text.Tie as tie
 

@@ -1,12 +1,9 @@
 -- `masking::parts::shown_text_answer` meets its contract: the tests are document 01's, in its order. Assumes nothing.
-use mathlib.Core.Path.{_≡_, refl, sym, ap, _∙_}
-use mathlib.Core.Bool.{true, false, not, _||_}
+use mathlib.Core.Path.{_≡_, refl, sym, _∙_}
+use mathlib.Core.Bool.{false}
 use denote.Ref.{now}
-use lib.Dec.{eqb}
-use lib.ListN.{length}
 use borrow.Author.Needs.{needs}
 use borrow.Author.Tests.{lt-ltb, le-ltb, eq-eqb, ne-eqb}
-use Rattle.rules.specs.Kinds.{someKind}
 use Rattle.rules.specs.Limits.{maxQuerySize}
 use Rattle.rules.specs.Answers.{tooLong, noPart, shownText}
 use Rattle.rules.proofs.Parts.{part-inside}

@@ -4,8 +4,8 @@ use mathlib.Core.Path.{_≡_, sym, ap, _∙_}
 use denote.Ref.{now}
 use lib.ListN.{length}
 use borrow.Author.Needs.{needs}
-use Rattle.rules.specs.Answers.{Part, Done, tokenText, partOf}
-use Rattle.rules.proofs.Parts.{Sound, token-sound}
+use Rattle.rules.specs.Answers.{Part, tokenText, partOf}
+use Rattle.rules.proofs.Parts.{token-sound}
 use Rattle.masking.proofs.parts.token_text.Statement.{statement}
 use Rattle.masking.proofs.parts.token_text.Tie as tie
 

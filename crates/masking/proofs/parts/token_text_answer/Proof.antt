@@ -1,5 +1,4 @@
 -- `masking::parts::token_text_answer` meets its contract: the tests are document 01's, in its order. Assumes nothing.
-use Prim.Native.Nat.{_≤_}
 use mathlib.Core.Path.{_≡_, refl, sym, _∙_}
 use mathlib.Core.Bool.{false}
 use denote.Ref.{now}

@@ -3,9 +3,7 @@
 use Prim.Native.Nat.{ℕ, _+_, _-_, _≤_}
 use mathlib.Core.Path.{_≡_, ap, _∙_}
 use denote.Ref.{now}
-use lib.ListN.{length}
 use native.Mathlib.Omega.{arith}
-use borrow.Author.Needs.{needs}
 use Rattle.rules.specs.Places.{Place, placeOf}
 use Rattle.rules.proofs.Places.{place-start, next-line, same-line}
 use Rattle.masking.proofs.places.column_of.Statement.{statement}

@@ -4,9 +4,7 @@ use Prim.Native.Nat.{ℕ, _+_, _-_, _≤_}
 use mathlib.Core.Path.{_≡_, refl, sym, ap, _∙_}
 use mathlib.Core.Logic.{⊎-elim}
 use denote.Ref.{now}
-use lib.ListN.{length}
 use native.Mathlib.Omega.{arith}
-use borrow.Author.Needs.{needs}
 use Rattle.rules.specs.Places.{Place, placeOf}
 use Rattle.rules.proofs.Places.{place-start, next-line, same-line, place-most}
 use Rattle.masking.proofs.places.line_of.Statement.{statement}
