@@ -7,7 +7,8 @@ use Rattle.rules.specs.Utf8.{valid, validLength}
 use Rattle.rules.specs.Kinds.{Whitespace, Comment}
 use Rattle.rules.specs.Tokens.{Token, tokensFrom}
 use Rattle.rules.specs.Listing.{only, startsBefore}
-use Rattle.rules.specs.Answers.{Done, NotUtf8, Written, refused, stored}
+use Rattle.rules.specs.Answers.{Done, NotUtf8}
+use Rattle.rules.specs.Records.{Plan, refusing, storing}
 use Rattle.lists.specs.declared.listing.Choice.{Choice}
 
 -- Whether a kind is kept.
@@ -18,6 +19,6 @@ keeps choice kind = not ((choice .«drop_whitespace» && eqb kind Whitespace) ||
 unfoldable pub chosen : Choice → List ℕ → ℕ → List Token
 chosen choice s cursor = only (λ t. keeps choice (t .kind)) (only (startsBefore (choice .position)) (tokensFrom s cursor))
 
--- What both listings give of a text that is not too long.
-abbrev pub storedChoice : Choice → List ℕ → List ℕ → Written
-storedChoice choice text list = cond (not (valid text)) (refused NotUtf8 (validLength text) list) (stored (chosen choice text 0) Done list)
+-- What both listings do with a text that is not too long.
+abbrev pub chosenPlan : Choice → List ℕ → Plan
+chosenPlan choice text = cond (not (valid text)) (refusing NotUtf8 (validLength text)) (storing (chosen choice text 0) Done)

@@ -14,9 +14,11 @@ ghost use Prim.Native.Nat.{_-_, _*_, _≤_, _<_, _^_};
 ghost use lib.ListN.{length};
 ghost use Rattle.rules.specs.Limits.{maxQuerySize, tokenBytes};
 ghost use Rattle.rules.specs.Listing.{full, lean, pack};
-ghost use Rattle.rules.specs.Answers.{TooLong, filled, stored, tooLongList, listing, listingUpTo};
+ghost use Rattle.rules.specs.Answers.{Done, TooLong, filled, stored, tooLongList, listing, listingUpTo};
+ghost use Rattle.rules.specs.Records.{wholePlan, upToPlan, packedBy};
 ghost use Rattle.rules.specs.Cases.{written};
-ghost use Rattle.lists.specs.Choices.{keeps, chosen, storedChoice};
+ghost use Rattle.lists.specs.Choices.{keeps, chosen, chosenPlan};
+ghost use Rattle.lists.specs.Plans.{planOf, Follows, Planned};
 
 // What a listing is asked for. `tokenize` does not look at the position. Each setter hands the settings back changed, so calls chain.
 pub struct Settings {
@@ -63,14 +65,23 @@ impl Settings {
 }
 
 // Which tokens a list has: those that start before the position, without the kinds that it drops. The position lies in the text.
-struct Choice {
-    position: usize,
-    drop_whitespace: bool,
-    drop_comment: bool,
+pub struct Choice {
+    pub position: usize,
+    pub drop_whitespace: bool,
+    pub drop_comment: bool,
+}
+
+// What a listing is to do, as far as the room does not decide it.
+pub enum Plan {
+    Refused(Answer),
+    // The list that `tokenize` gives of a text that is too long.
+    TooLong,
+    // Tokens of the text, which is not too long.
+    List(Choice),
 }
 
 impl Choice {
-    fn keeps(self, kind: u32) -> bool
+    pub fn keeps(self, kind: u32) -> bool
         ensures { λ r. ⌜ r ≡ keeps self kind ⌝ }
     {
         !((self.drop_whitespace & (kind == SyntaxKind::Whitespace))
@@ -79,7 +90,7 @@ impl Choice {
 }
 
 // The list's length.
-fn count(text: &[u8], choice: Choice) -> usize
+pub fn count(text: &[u8], choice: Choice) -> usize
     requires { ⌜ (length (now text) ≤ maxQuerySize) × (choice .position ≤ length (now text)) ⌝ }
     ensures { λ r. ⌜ r ≡ length (chosen choice (now (text .entry)) 0) ⌝ }
 {
@@ -141,15 +152,11 @@ fn fill(text: &[u8], choice: Choice, list: &mut [u8]) -> usize
     at / token_bytes()
 }
 
-// Stores the list of a text that is not too long, unless the text is not valid or the room too small.
-fn store(text: &[u8], choice: Choice, list: &mut [u8]) -> Answer
+// Stores the list, unless the room is too small.
+fn store_chosen(text: &[u8], choice: Choice, list: &mut [u8]) -> Answer
     requires { ⌜ (length (now text) ≤ maxQuerySize) × (choice .position ≤ length (now text)) ⌝ }
-    ensures { λ r. ⌜ written r (now (list .exit)) ≡ storedChoice choice (now (text .entry)) (now (list .entry)) ⌝ }
+    ensures { λ r. ⌜ written r (now (list .exit)) ≡ stored (chosen choice (now (text .entry)) 0) Done (now (list .entry)) ⌝ }
 {
-    let valid = valid_length(text);
-    if valid != text.len() {
-        return Answer::NotUtf8(valid);
-    }
     let room = list.len() / token_bytes();
     let tokens = needed(text, choice, room);
     if room < tokens {
@@ -170,15 +177,38 @@ fn store_too_long(list: &mut [u8]) -> Answer
     Answer::TooLong(2)
 }
 
+fn store(text: &[u8], plan: Plan, list: &mut [u8]) -> Answer
+    requires { ⌜ Follows plan (now text) ⌝ }
+    ensures { λ r. ⌜ written r (now (list .exit)) ≡ packedBy (planOf plan (now (text .entry))) (now (list .entry)) ⌝ }
+{
+    match plan {
+        Plan::Refused(answer) => answer,
+        Plan::TooLong => store_too_long(list),
+        Plan::List(choice) => store_chosen(text, choice, list),
+    }
+}
+
+// The choice, of a text that is not too long, unless the text is not valid.
+fn plan_chosen(text: &[u8], choice: Choice) -> Plan
+    requires { ⌜ (length (now text) ≤ maxQuerySize) × (choice .position ≤ length (now text)) ⌝ }
+    ensures { λ r. ⌜ Planned r (now (text .entry)) (chosenPlan choice (now (text .entry))) ⌝ }
+{
+    let valid = valid_length(text);
+    if valid != text.len() {
+        return Plan::Refused(Answer::NotUtf8(valid));
+    }
+    Plan::List(choice)
+}
+
 // The whole listing. Lean drops white space and comments.
-pub fn tokenize(settings: Settings, text: &[u8], list: &mut [u8]) -> Answer
-    ensures { λ r. ⌜ written r (now (list .exit)) ≡ listing (settings .mode) (now (text .entry)) (now (list .entry)) ⌝ }
+pub fn plan_whole(settings: Settings, text: &[u8]) -> Plan
+    ensures { λ r. ⌜ Planned r (now (text .entry)) (wholePlan (settings .mode) (now (text .entry))) ⌝ }
 {
     if settings.mode > Settings::LEAN {
-        return Answer::NoMode;
+        return Plan::Refused(Answer::NoMode);
     }
     if text.len() > max_query_size() {
-        return store_too_long(list);
+        return Plan::TooLong;
     }
     let lean = settings.mode == Settings::LEAN;
     let choice = Choice {
@@ -186,18 +216,18 @@ pub fn tokenize(settings: Settings, text: &[u8], list: &mut [u8]) -> Answer
         drop_whitespace: lean,
         drop_comment: lean,
     };
-    store(text, choice, list)
+    plan_chosen(text, choice)
 }
 
 // The tokens that start before the position. Lean drops white space and keeps comments.
-pub fn tokenize_up_to_position(settings: Settings, text: &[u8], list: &mut [u8]) -> Answer
-    ensures { λ r. ⌜ written r (now (list .exit)) ≡ listingUpTo (settings .mode) (settings .position) (now (text .entry)) (now (list .entry)) ⌝ }
+pub fn plan_up_to(settings: Settings, text: &[u8]) -> Plan
+    ensures { λ r. ⌜ Planned r (now (text .entry)) (upToPlan (settings .mode) (settings .position) (now (text .entry))) ⌝ }
 {
     if settings.mode > Settings::LEAN {
-        return Answer::NoMode;
+        return Plan::Refused(Answer::NoMode);
     }
     if text.len() > max_query_size() {
-        return Answer::TooLong(0);
+        return Plan::Refused(Answer::TooLong(0));
     }
     let lean = settings.mode == Settings::LEAN;
     let position = if settings.position < text.len() {
@@ -210,5 +240,19 @@ pub fn tokenize_up_to_position(settings: Settings, text: &[u8], list: &mut [u8])
         drop_whitespace: lean,
         drop_comment: false,
     };
-    store(text, choice, list)
+    plan_chosen(text, choice)
+}
+
+pub fn tokenize(settings: Settings, text: &[u8], list: &mut [u8]) -> Answer
+    ensures { λ r. ⌜ written r (now (list .exit)) ≡ listing (settings .mode) (now (text .entry)) (now (list .entry)) ⌝ }
+{
+    let plan = plan_whole(settings, text);
+    store(text, plan, list)
+}
+
+pub fn tokenize_up_to_position(settings: Settings, text: &[u8], list: &mut [u8]) -> Answer
+    ensures { λ r. ⌜ written r (now (list .exit)) ≡ listingUpTo (settings .mode) (settings .position) (now (text .entry)) (now (list .entry)) ⌝ }
+{
+    let plan = plan_up_to(settings, text);
+    store(text, plan, list)
 }

@@ -1,6 +1,6 @@
 -- A contract determines what comes back: any two results of one call that it allows are equal, and so is what each lent buffer holds afterwards.
 -- `ended` and `Learnt` are the toolchain's own for each function: how its parameters end, and what its contract tells a caller.
--- Every public function of the libraries is here but `next_token` and `look` of `ahead`, which leave a choice that no answer shows; so does `read_case` of the program `replay`.
+-- Every public function of the libraries is here but those that docs/PROMISES.md names: some leave a choice that no answer shows, and those of `forms` have no `Learnt`.
 -- Assumes nothing.
 use mathlib.Core.Path.{_≡_, refl, sym, ap, _∙_}
 use denote.Ref.{now}
@@ -12,6 +12,7 @@ use Rattle.probe.proofs as probe
 use Rattle.lexer.proofs.tokenizer as tokenizer
 use Rattle.lists.proofs.listing as listing
 use Rattle.lists.proofs.packed as packed
+use Rattle.lists.proofs.picks as picks
 use Rattle.lists.specs.declared.listing.Settings.{Settings}
 use Rattle.masking.proofs.copy as copy
 use Rattle.masking.proofs.parts as parts
@@ -127,6 +128,18 @@ tokenize κs a r s u v p q = lent (λ l. (tt, (tt, (l, tt)))) (one-answer r s _ 
 
 pub tokenize-up-to-position : Determined listing.tokenize_up_to_position.ended listing.tokenize_up_to_position.Reads.Learnt
 tokenize-up-to-position κs a r s u v p q = lent (λ l. (tt, (tt, (l, tt)))) (one-answer r s _ _ _ p q)
+
+pub keeps : Determined listing.Choice.keeps.ended listing.Choice.keeps.Reads.Learnt
+keeps κs a r s u v p q = (same p q, refl)
+
+pub count : Determined listing.count.ended listing.count.Reads.Learnt
+count κs a r s u v p q = (same p q, refl)
+
+pub answer-in : Determined picks.answer_in.ended picks.answer_in.Reads.Learnt
+answer-in κs a r s u v p q = (one-case r s (same (p .0 .0) (q .0 .0)) (same (p .0 .1) (q .0 .1)), refl)
+
+pub stored-by : Determined picks.stored_by.ended picks.stored_by.Reads.Learnt
+stored-by κs a r s u v p q = (same p q, refl)
 
 pub put-token : Determined packed.put_token.ended packed.put_token.Reads.Learnt
 put-token κs a r s u v p q = lent (λ l. (l, u .1)) (both p q)

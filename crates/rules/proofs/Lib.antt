@@ -44,4 +44,5 @@ pub mod Parts
 pub mod Places
 pub mod Bounds
 pub mod Cases
+pub mod Plans
 pub mod Bench

@@ -16,5 +16,6 @@ pub mod Listing
 pub mod Masking
 pub mod Places
 pub mod Answers
+pub mod Records
 pub mod Cases
 pub mod Bench

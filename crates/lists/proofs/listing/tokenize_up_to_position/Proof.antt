@@ -1,52 +1,18 @@
--- `lists::listing::tokenize_up_to_position` meets its contract: the tests are document 01's, in its order. Assumes nothing.
-use mathlib.Core.Path.{_∙_}
-use mathlib.Core.Logic.{inl, inr, ⊎-elim}
+-- `lists::listing::tokenize_up_to_position` meets its contract: it does what is planned. Assumes nothing.
+use mathlib.Core.Path.{sym, _∙_, ap}
 use denote.Ref.{now}
-use lib.ListN.{length}
-use native.Mathlib.Omega.{arith}
 use borrow.Author.Needs.{needs}
-use borrow.Author.Tests.{lt-ltb, le-ltb}
-use Rattle.rules.specs.Limits.{maxQuerySize}
-use Rattle.rules.specs.Listing.{lean}
-use Rattle.rules.specs.Answers.{listingUpTo}
-use Rattle.lists.proofs.Choosing.{up-to-chosen}
+use Rattle.rules.specs.Records.{Plan, packedBy}
+use Rattle.rules.proofs.Plans.{up-to-planned}
 use Rattle.lists.proofs.listing.tokenize_up_to_position.Statement.{statement}
 use Rattle.lists.proofs.listing.tokenize_up_to_position.Tie as tie
 
 returns : tie.Need-returns
-unfolding listingUpTo
-returns c = rw (lt-ltb lean (c .before .before .before .before .args .settings .mode) (c .if1 .taken))
-
-returns-2 : tie.Need-returns-2
-unfolding listingUpTo
-returns-2 c =
-    let e = c .before .before in
-    let a = e .before .before .before .before .args in
-    let l = rw (c .before .max-query-size .ensures) at (c .if2 .taken) in
-    rw (le-ltb lean (a .settings .mode) (e .if1 .left), lt-ltb maxQuerySize (length (now (a .text))) l)
-
-store-requires : tie.Need-store-requires
-store-requires c κs =
-    let j = c .before in
-    let m = j .before .before .before in
-    (rw (m .before .max-query-size .ensures) at (m .if2 .left), ⊎-elim (λ w. omega arith) (λ w. omega arith) (j .if3 .came))
-
-returns-3 : tie.Need-returns-3
-unfolding listingUpTo
-returns-3 c =
+returns c =
     let r = c .before .before in
-    let j = r .before .before in
-    let m = j .before .before .before in
-    let e = m .before .before in
-    let a = e .before .before .before .before .args in
-    let l = rw (m .before .max-query-size .ensures) at (m .if2 .left) in
-    r .store .ensures
-    ∙ rw (
-      le-ltb lean (a .settings .mode) (e .if1 .left),
-      le-ltb maxQuerySize (length (now (a .text))) l,
-      up-to-chosen (a .settings .mode) (a .settings .position) (j .if3 .position) (now (a .text)) (⊎-elim (λ w. inl (w .1)) (λ w. inr (w .1, w .0 .left)) (j .if3 .came)),
-    )
+    let p = r .before .before in
+    let a = p .before .before .before .args in
+    r .store .ensures ∙ ap (λ (p : Plan). packedBy p (now (a .list))) (p .plan-up-to .ensures .0) ∙ sym (up-to-planned (a .settings .mode) (a .settings .position) (now (a .text)) (now (a .list)))
 
 pub tokenize-up-to-position-spec : {M : Type 1} → statement M
-tokenize-up-to-position-spec =
-    tie.close (tie.spec returns (λ c κs. search needs) returns-2 store-requires (λ c. search needs) returns-3)
+tokenize-up-to-position-spec = tie.close (tie.spec (λ c κs. search needs) (λ c κs. c .before .plan-up-to .ensures .1) (λ c. search needs) returns)
