@@ -93,18 +93,31 @@ fn random_texts_at_every_place() {
     compare(&random_texts(3000), true);
 }
 
+/// The fronts of a run, whole and with one byte replaced by each of some.
+fn damaged(run: &[u8], bad: &[u8]) -> Vec<Vec<u8>> {
+    let mut texts = vec![];
+    for len in 0..run.len() {
+        let front = run[..len].to_vec();
+        for at in 0..len {
+            texts.extend(bad.iter().map(|b| [&front[..at], &[*b], &front[at + 1..]].concat()));
+        }
+        texts.push(front);
+    }
+    texts
+}
+
 #[test]
 fn one_bad_byte_at_every_place_of_a_run_of_ascii() {
-    let mut texts = vec![];
-    for len in 0..200 {
-        texts.push(vec![b'a'; len]);
-        for at in 0..len {
-            let mut text = vec![b'a'; len];
-            text[at] = 0x80;
-            texts.push(text);
-        }
+    compare(&damaged(&[b'a'; 200], &[0x80]), false);
+}
+
+#[test]
+fn one_bad_byte_at_every_place_of_a_run_of_two_byte_characters() {
+    let whole = "ש".repeat(100);
+    let split = format!("שa{whole}");
+    for run in [whole, split] {
+        compare(&damaged(run.as_bytes(), &[b'a', 0x80, 0xC1, 0xD7, 0xE0]), false);
     }
-    compare(&texts, false);
 }
 
 #[test]

@@ -48,6 +48,9 @@ pass-more s i k {x} h p l =
     rw e at (pass-byte s i (i + k) (p (o .0)) h (o .1))
 
 -- two blocks, one after the other
+pub pass-and : (s : List ℕ) (i j k : ℕ) (a b : Bool) → (a ≡ true → Passes s i j) → (b ≡ true → Passes s j k) → (a && b) ≡ true → Passes s i k
+pass-and s i j k a b p q e = let h = and-both a b e in pass-on s i j k (p (h .0)) (q (h .1))
+
 pub pass-two : (s : List ℕ) (i n : ℕ) (a b : Bool) → (a ≡ true → Passes s i (i + n)) → (b ≡ true → Passes s (i + n) ((i + n) + n))
     → (k : ℕ) → k ≡ (i + n) + n → (a && b) ≡ true → Passes s i k
-pass-two s i n a b p q k f e = let h = and-both a b e in rw f (pass-on s i (i + n) ((i + n) + n) (p (h .0)) (q (h .1)))
+pass-two s i n a b p q k f e = rw f (pass-and s i (i + n) ((i + n) + n) a b p q e)

@@ -2,8 +2,9 @@
 use Prim.Native.Nat.{ℕ, zero, suc, _+_, _≤_}
 use mathlib.Core.Path.{_≡_}
 use mathlib.Core.List.{List, [], _∷_}
-use lib.ListN.{length, drop}
-use Rattle.rules.specs.Utf8.{noCode, wellFormed, codeOf, validLength}
+use mathlib.Core.Bool.{cond}
+use lib.ListN.{length, getD, drop}
+use Rattle.rules.specs.Utf8.{utf8Tail, noCode, wellFormed, codeOf, validLength}
 use Rattle.utf8.specs.declared.Unit.{Unit}
 use Rattle.utf8.specs.declared.Unit.the-variants.{Char, Broken, End}
 
@@ -34,3 +35,7 @@ pub record Passes (s : List ℕ) (i j : ℕ) : Type 0 where
   pub from : i ≤ j
   pub upto : j ≤ length s
   pub rest : validLength (drop i s) + i ≡ validLength (drop j s) + j
+
+-- The index i, or the next where the byte at i is a tail: where a character begins next, if none is longer than two bytes.
+abbrev pub afterTail : List ℕ → ℕ → ℕ
+afterTail s i = cond (utf8Tail (getD s i 0)) (i + 1) i

@@ -4,7 +4,7 @@ ghost use mathlib.Core.Bool.{true, _&&_};
 ghost use Prim.Native.Nat.{ℕ, _+_, _%_, _≤_, _<_};
 ghost use lib.ListN.{length, getD, drop};
 ghost use Rattle.rules.specs.Utf8.{within, utf8Tail, utf8Three, utf8Four, wellFormed, codeOf, validLength};
-ghost use Rattle.utf8.specs.Units.{unitAt, unitCode, unitLen, Passes};
+ghost use Rattle.utf8.specs.Units.{unitAt, unitCode, unitLen, Passes, afterTail};
 
 pub enum Unit {
     Char { code: u32, len: usize },
@@ -229,6 +229,51 @@ fn ascii_end(s: &[u8], j: usize) -> usize
     k
 }
 
+// The first of two bytes stands at i where a tail follows, and a tail or ASCII where none does.
+fn pair_at(s: &[u8], i: usize) -> bool
+    requires { ⌜ i + 1 < length (now s) ⌝ }
+    ensures { λ r. ⌜ (r ≡ true → Passes (now (s .entry)) (afterTail (now (s .entry)) i) (afterTail (now (s .entry)) (i + 1))) ⌝ }
+{
+    let b = s[i];
+    if is_tail(s[i + 1]) {
+        (0xC2 <= b) & (b < 0xE0)
+    } else {
+        b < 0xC0
+    }
+}
+
+// No pair ends the loop early, so that the 16 become one test.
+fn pairs16(s: &[u8], i: usize) -> bool
+    requires { ⌜ i + 16 < length (now s) ⌝ }
+    ensures { λ r. ⌜ (r ≡ true → Passes (now (s .entry)) (afterTail (now (s .entry)) i) (afterTail (now (s .entry)) (i + 16))) ⌝ }
+{
+    let mut all = true;
+    let mut k = i;
+    while k < i + 16 {
+        all = all & pair_at(s, k);
+        k += 1;
+    }
+    all
+}
+
+// Past characters of one or two bytes from j on, by blocks. A block may end between the bytes of a character; much ASCII is left to its own blocks.
+fn pairs_end(s: &[u8], j: usize) -> usize
+    requires { ⌜ j ≤ length (now s) ⌝ }
+    ensures { λ r. ⌜ Passes (now (s .entry)) j r ⌝ }
+{
+    if is_tail(byte_at(s, j)) {
+        return j;
+    }
+    let mut k = j;
+    while s.len() - k >= 64 {
+        if ascii64(s, k) | !pairs16(s, k) {
+            break;
+        }
+        k += 16;
+    }
+    if is_tail(byte_at(s, k)) { k + 1 } else { k }
+}
+
 // The length of the longest prefix of well-formed characters.
 pub fn valid_length(s: &[u8]) -> usize
     ensures { λ r. ⌜ r ≡ validLength (now (s .entry)) ⌝ }
@@ -242,7 +287,7 @@ pub fn valid_length(s: &[u8]) -> usize
             if n == 0 {
                 return j;
             }
-            j += n;
+            j = if n == 2 { pairs_end(s, j + n) } else { j + n };
         }
     }
     j

@@ -43,14 +43,14 @@ goes : (c : tie.Else2 Inv-loop μ-loop)
     → let a = c .before .before .before .before .before in Passes (now (a .before .before .args .s)) 0 (a .loop .j + c .before .formed-at .result)
 goes c = pass-char _ _ _ _ (c .before .before .before .before .before .loop .inv) (omega arith) (c .before .formed-at .ensures) (c .if2 .left)
 
-add-j : tie.Need-add-j Inv-loop μ-loop
-add-j c = omega (arith, goes c .upto)
-
 loop-less-2 : tie.Need-loop-less-2 Inv-loop μ-loop
-loop-less-2 c = omega (arith, goes c .upto, c .if2 .left)
+loop-less-2 c = omega (arith, c .before .before .if2 .left, c .pairs-end .ensures .from)
 
 loop-again-2 : tie.Need-loop-again-2 Inv-loop μ-loop
-loop-again-2 c = goes c
+loop-again-2 c = pass-on _ _ _ _ (goes (c .before .before)) (c .pairs-end .ensures)
+
+loop-less-3 : tie.Need-loop-less-3 Inv-loop μ-loop
+loop-less-3 c = omega (arith, goes (c .before) .upto, c .before .if2 .left)
 
 returns-2 : tie.Need-returns-2 Inv-loop μ-loop
 returns-2 c = pass-end _ _ (c .before .loop .inv) (c .loop-test .left)
@@ -69,7 +69,11 @@ valid-length-spec =
     loop-again
     formed-at-requires
     returns
-    add-j
+    (λ c. omega (arith, goes (c .before) .upto))
+    (λ c κs. goes (c .before) .upto)
+    (λ c. omega (arith, goes (c .before) .upto))
     loop-less-2
     loop-again-2
+    loop-less-3
+    (λ c. goes (c .before))
     returns-2)

@@ -1,0 +1,60 @@
+-- `utf8::pairs_end` meets its contract. The invariant: the text is well-formed from j to k, or to the byte after it where k has a tail.
+-- The measure is what is left. Assumes nothing.
+use Prim.Native.Nat.{_-_, _≤_}
+use mathlib.Core.Bool.{true, false, not}
+use native.Mathlib.Omega.{arith}
+use borrow.Author.Tests.{not-false}
+use borrow.Author.Needs.{needs}
+use lib.ListN.{length}
+use Rattle.rules.proofs.Parts.{or-none}
+use Rattle.utf8.specs.Units.{Passes, afterTail}
+use Rattle.utf8.proofs.Passing.{pass-none, pass-on}
+use Rattle.utf8.proofs.Pairs.{after-read}
+use Rattle.utf8.proofs.pairs_end.Statement.{statement}
+use Rattle.utf8.proofs.pairs_end.Tie as tie
+
+abbrev Inv-loop : tie.InvT-loop
+Inv-loop s j k₀ k = (k ≤ length s) × Passes s j (afterTail s k)
+
+abbrev μ-loop : tie.MeasureT-loop
+μ-loop s j k₀ k = length s - k
+
+loop-holds : tie.Need-loop-holds Inv-loop μ-loop
+loop-holds c =
+    (omega arith, rw (after-read _ _ false (c .before .before .byte-at .ensures) (c .before .is-tail .ensures) (c .if1 .left)) (pass-none _ _ (omega arith)))
+
+loop-again : tie.Need-loop-again Inv-loop μ-loop
+loop-again c =
+    let p = c .before in
+    let e = or-none (p .before .ascii64 .result) (not (p .pairs16 .result)) (c .if2 .left) .1 in
+    (omega arith, pass-on _ _ _ _ (p .before .before .before .loop .inv .1) (p .pairs16 .ensures (not-false _ e)))
+
+returns-2 : tie.Need-returns-2 Inv-loop μ-loop
+returns-2 c =
+    rw (after-read _ _ true (c .before .before .byte-at2 .ensures) (c .before .is-tail2 .ensures) (c .if3 .taken)) at (c .before .before .before .before .loop .inv .1)
+
+returns-3 : tie.Need-returns-3 Inv-loop μ-loop
+returns-3 c =
+    rw (after-read _ _ false (c .before .before .byte-at2 .ensures) (c .before .is-tail2 .ensures) (c .if3 .left)) at (c .before .before .before .before .loop .inv .1)
+
+pub pairs-end-spec : {M : Type 1} → statement M
+pairs-end-spec =
+    tie.close
+    (tie.spec
+    Inv-loop
+    μ-loop
+    (λ c κs. search needs)
+    (λ c κs. search needs)
+    (λ c. pass-none _ _ (omega arith))
+    loop-holds
+    (λ c. omega arith)
+    (λ c κs. omega arith)
+    (λ c κs. omega arith)
+    (λ c. omega arith)
+    (λ c. omega arith)
+    loop-again
+    (λ c κs. search needs)
+    (λ c κs. search needs)
+    (λ c. omega arith)
+    returns-2
+    returns-3)
