@@ -94,6 +94,19 @@ fn random_texts() {
     println!("{n} random texts, half of them damaged, some of their tokens and other parts: {compared} calls");
 }
 
+/// Line feeds are counted and sought in blocks, of which these texts have several.
+#[test]
+fn one_line_feed_at_every_place_of_a_run() {
+    let mut compared = 0;
+    for at in 0..300 {
+        let mut text = vec![b'a'; 300];
+        text[at] = b'\n';
+        let calls: Vec<Call> = everywhere(&text).into_iter().map(|offset| Call::read(Op::Place, offset, &text)).collect();
+        compared += compare(&calls, calls.iter().map(want));
+    }
+    println!("one line feed in 300 bytes: {compared} calls");
+}
+
 /// The Rust's `Token::text` slices a `&str`, and panics just where `get` gives nothing.
 #[test]
 fn token_text_is_a_slice_of_the_rust() {
