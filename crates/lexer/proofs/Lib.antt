@@ -5,6 +5,7 @@ pub mod Matches
 -- Rules 1 and 3: runs of a class, and the classes by the code's tests.
 pub mod Runs
 pub mod Classes
+pub mod Skips
 -- Rules 1 and 4: what is closed or not.
 pub mod Comments
 pub mod Bodies

@@ -1,0 +1,4 @@
+-- Bytes packed into one number, what is reckoned of all of them at once, and the first that does not pass.
+pub mod Packed
+pub mod Lanes
+pub mod Firsts

@@ -1,0 +1,80 @@
+// Runs of bytes of a class, eight at a time. Each ends where eight bytes are no longer left, and its caller goes on byte by byte.
+ghost use mathlib.Core.Path.{_≡_};
+ghost use mathlib.Core.Bool.{Bool, true, false, _&&_};
+ghost use Prim.Native.Nat.{ℕ, _+_, _-_, _*_, _≤_, _<_};
+ghost use lib.ListN.{length, getD};
+ghost use Rattle.runs.specs.Classes.{edges, Ascii, passes, Skips};
+ghost use Rattle.runs.specs.Lanes.{ones, packed, others};
+
+// A class of bytes of ASCII: from one edge on and below the next, of which there are four pairs. Two equal ones bound nothing.
+pub struct Class {
+    pub a: u8,
+    pub b: u8,
+    pub c: u8,
+    pub d: u8,
+    pub e: u8,
+    pub f: u8,
+    pub g: u8,
+    pub h: u8,
+}
+
+// The two bytes from i on as one number, the first lowest; then four, and eight. It becomes one load.
+fn two(text: &[u8], i: usize) -> u64
+    requires { ⌜ i + 2 ≤ length (now text) ⌝ }
+    ensures { λ r. ⌜ r ≡ packed 2 (now (text .entry)) i ⌝ }
+{
+    text[i] as u64 + text[i + 1] as u64 * 0x100
+}
+
+fn four(text: &[u8], i: usize) -> u64
+    requires { ⌜ i + 4 ≤ length (now text) ⌝ }
+    ensures { λ r. ⌜ r ≡ packed 4 (now (text .entry)) i ⌝ }
+{
+    two(text, i) + two(text, i + 2) * 0x1_0000
+}
+
+fn eight(text: &[u8], i: usize) -> u64
+    requires { ⌜ i + 8 ≤ length (now text) ⌝ }
+    ensures { λ r. ⌜ r ≡ packed 8 (now (text .entry)) i ⌝ }
+{
+    four(text, i) + four(text, i + 4) * 0x1_0000_0000
+}
+
+// Each byte of y is below 80, and so none of the sums runs over into the next.
+fn raised(y: u64, edge: u8) -> u64
+    requires { ⌜ (y ≤ 0x7F * ones 8) × (edge ≤ 0x80) ⌝ }
+    ensures { λ r. ⌜ r ≡ y + (0x80 - edge) * ones 8 ⌝ }
+{
+    y + (0x80 - edge) as u64 * 0x0101_0101_0101_0101
+}
+
+// The high bit of each byte that is not in the class.
+fn others(x: u64, k: Class) -> u64
+    requires { ⌜ Ascii (edges k) ⌝ }
+    ensures { λ r. ⌜ r ≡ others 8 (edges k) x ⌝ }
+{
+    let y = x & 0x7F7F_7F7F_7F7F_7F7F;
+    let w = raised(y, k.a)
+        ^ (raised(y, k.b)
+            ^ (raised(y, k.c)
+                ^ (raised(y, k.d)
+                    ^ (raised(y, k.e) ^ (raised(y, k.f) ^ (raised(y, k.g) ^ raised(y, k.h)))))));
+    ((w ^ 0x8080_8080_8080_8080) | x) & 0x8080_8080_8080_8080
+}
+
+// Where the bytes from `at` on end that are in the class; or, where `out`, those that are not.
+pub fn skip(text: &[u8], at: usize, out: bool, k: Class) -> usize
+    requires { ⌜ (at ≤ length (now text)) × Ascii (edges k) ⌝ }
+    ensures { λ r. ⌜ Skips (passes out (edges k)) (now (text .entry)) at r ⌝ }
+{
+    let flip = if out { 0x8080_8080_8080_8080 } else { 0 };
+    let mut j = at;
+    while text.len() - j >= 8 {
+        let m = others(eight(text, j), k) ^ flip;
+        if m != 0 {
+            return j + (u64::trailing_zeros(m) / 8) as usize;
+        }
+        j += 8;
+    }
+    j
+}
