@@ -78,7 +78,7 @@ word-bit d b m e = ap (λ (m : ℕ). ltb b 0x80 && bit m b) e ∙ go (ltb b 0x80
     go false h = refl
 
 -- A tag's bytes are the word bytes of ASCII.
-ascii-tag : (b : ℕ) → b < 0x80 → wordCharacter b ≡ tagByte b
+pub ascii-tag : (b : ℕ) → b < 0x80 → wordCharacter b ≡ tagByte b
 unfolding alphanumeric alphabetic numeric inRanges alphabeticTable numericTable
 ascii-tag = agree-at wordCharacter tagByte 0x80 refl
 

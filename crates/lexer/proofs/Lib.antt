@@ -1,11 +1,14 @@
 -- What the proofs of the readers share. A reader's own proof is in tokenizer/, under its name.
--- Answers, and matches on a byte.
+-- Answers, matches on a byte, and what a first byte tells.
 pub mod Ends
 pub mod Matches
+pub mod Leads
+pub mod Shorts
 -- Rules 1 and 3: runs of a class, and the classes by the code's tests.
 pub mod Runs
 pub mod Classes
 pub mod Skips
+pub mod Edges
 -- Rules 1 and 4: what is closed or not.
 pub mod Comments
 pub mod Bodies
@@ -13,3 +16,4 @@ pub mod Bodies
 pub mod HereDocs
 -- Rules 6 and 7.
 pub mod Numbers
+pub mod ShortNumbers

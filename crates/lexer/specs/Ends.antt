@@ -1,9 +1,10 @@
 -- What the readers answer, in the code's own structs.
 use Prim.Native.Nat.{ℕ, _+_, _≤_, _<_}
+use mathlib.Core.Path.{_≡_}
 use lib.ListN.{length, getD}
 use mathlib.Core.List.{List, [], _∷_}
 use Rattle.rules.specs.Utf8.{Char}
-use Rattle.rules.specs.Kinds.{EndOfStream}
+use Rattle.rules.specs.Kinds.{NoToken, EndOfStream}
 use Rattle.rules.specs.Lexeme.{Lexeme, is}
 use Rattle.rules.specs.Operators.{operator}
 use Rattle.rules.specs.Numbers.{Opening, Figures}
@@ -18,6 +19,10 @@ use Rattle.lexer.specs.declared.tokenizer.Part.{Part}
 -- A lexeme that starts at an offset: its kind, and where it ends.
 abbrev pub endsAt : ℕ → Lexeme → Lexed
 endsAt at l = record { kind = l .kind; end = at + l .size }
+
+-- What a short look gives is what it should be, or no token.
+abbrev pub Told : Lexed → Lexed → Type 0
+Told r l = (r .kind ≡ NoToken → ⊥) → r ≡ l
 
 -- How a number opens.
 abbrev pub opened : Opening → Opened

@@ -2,6 +2,8 @@
 pub struct SyntaxKind(pub u32);
 
 impl SyntaxKind {
+    pub const NoToken: u32 = 0;
+
     pub const Whitespace: u32 = 1;
 
     pub const Comment: u32 = 2;

@@ -3,6 +3,7 @@ use crate::syntax_kind::SyntaxKind;
 use crate::token::Token;
 use classes::tables::AlphabeticTable;
 use classes::tables::NumericTable;
+use runs::Class;
 use utf8::byte_at;
 use utf8::unit_at;
 use utf8::unit_code;
@@ -16,19 +17,21 @@ ghost use Rattle.rules.specs.Utf8.{charAt, chars};
 ghost use Rattle.rules.specs.Tables.{alphabeticTable, numericTable};
 ghost use Rattle.rules.specs.Classes.{whiteSpace, digit, hexDigit};
 ghost use Rattle.rules.specs.Characters.{dollar, underscore, backslash};
-ghost use Rattle.rules.specs.Kinds.{Comment, ErrorMultilineCommentIsNotClosed};
+ghost use Rattle.rules.specs.Kinds.{NoToken, Number, Comment, ErrorMultilineCommentIsNotClosed};
 ghost use Rattle.rules.specs.Lexeme.{first, two, run, enclosed};
 ghost use Rattle.rules.specs.Spaces.{notLineFeed, commentBody};
 ghost use Rattle.rules.specs.Operators.{single, pair, spaceship};
-ghost use Rattle.rules.specs.Words.{wordCharacter};
+ghost use Rattle.rules.specs.Words.{startsWord, wordCharacter};
+ghost use Rattle.runs.specs.Classes.{Skips};
 ghost use Rattle.rules.specs.Quotes.{quotedBody, upTo};
 ghost use Rattle.rules.specs.Dollars.{tagByte, begins, find, hereDoc, dollarLexeme};
 ghost use Rattle.rules.specs.Numbers.{digits, radixDigit, opening, fraction, marks, signs, exponent, numberWord, goesOn, allChars, closing, number};
 ghost use Rattle.rules.specs.Tokens.{lexeme, afterDotAt};
 ghost use Rattle.rules.specs.Answers.{refusedStep, step};
-ghost use Rattle.lexer.specs.Ends.{endsAt, opened, partAt, operatorAt, AsciiTo, stepped};
+ghost use Rattle.lexer.specs.Ends.{endsAt, Told, opened, partAt, operatorAt, AsciiTo, stepped};
 ghost use Rattle.lexer.specs.Steps.{Step};
-ghost use Rattle.lexer.specs.Words.{wordWith, wordMask};
+ghost use Rattle.lexer.specs.Words.{asciiWord, wordWith, wordMask};
+ghost use Rattle.lexer.specs.Leads.{leadKind, leadRow, Operates};
 ghost use Rattle.lexer.specs.Quotes.{curlyClose};
 ghost use Rattle.lexer.specs.HereDocs.{Ascii, Delimiter, TagEnd, foundEnd};
 
@@ -85,7 +88,7 @@ pub fn step(text: &[u8], cursor: usize) -> Stepped
     }
 }
 
-// The token at `start`. Words and white space are tried first, since most tokens are these.
+// The token at `start`. Most are told by a few bytes; the others are `read_rest`'s, which is called twice so that it stays out of line.
 pub fn next_token(text: &[u8], start: usize) -> Lexed
     ensures { λ r. ⌜ r ≡ endsAt start (lexeme (afterDotAt (now (text .entry)) start) (drop start (now (text .entry)))) ⌝ }
 {
@@ -95,6 +98,219 @@ pub fn next_token(text: &[u8], start: usize) -> Lexed
             end: start,
         };
     }
+    if text.len() - start < 3 {
+        return read_rest(text, start);
+    }
+    let l = read_short(&text[0..], start);
+    if l.kind != SyntaxKind::NoToken {
+        return Lexed {
+            kind: l.kind,
+            end: l.end,
+        };
+    }
+    let rest = read_rest(&text[0..], start);
+    Lexed {
+        kind: rest.kind,
+        end: rest.end,
+    }
+}
+
+// What nothing short tells.
+fn untold(start: usize) -> Lexed
+    ensures { λ r. ⌜ r ≡ record { kind = NoToken; end = «start» } ⌝ }
+{
+    Lexed {
+        kind: SyntaxKind::NoToken,
+        end: start,
+    }
+}
+
+// The token at `start`, or no token where another reader must look further.
+fn read_short(text: &[u8], start: usize) -> Lexed
+    requires { ⌜ start + 3 ≤ length (now text) ⌝ }
+    ensures { λ r. ⌜ Told r (endsAt start (lexeme (afterDotAt (now (text .entry)) start) (drop start (now (text .entry))))) ⌝ }
+{
+    let k = lead(text[start]);
+    if k == SyntaxKind::BareWord {
+        return short_word(text, start);
+    }
+    if k == SyntaxKind::Whitespace {
+        return short_space(text, start);
+    }
+    if k == SyntaxKind::Number {
+        return short_number(text, start);
+    }
+    if k < 0x80 {
+        return Lexed {
+            kind: k,
+            end: start + 1,
+        };
+    }
+    short_operator(text, start, k - 0x80)
+}
+
+// Eight kinds that `lead` gives, the first lowest: a match that becomes a table.
+fn lead_row(row: u8) -> u64
+    requires { ⌜ row < 32 ⌝ }
+    ensures { λ r. ⌜ r ≡ leadRow row ⌝ }
+{
+    match row {
+        0 => 0x2F2F_2F2F_2F2F_2F2F,
+        1 => 0x2F2F_0101_0101_012F,
+        2 => 0x2F2F_2F2F_2F2F_2F2F,
+        3 => 0x2F2F_2F2F_2F2F_2F2F,
+        4 => 0x002F_1700_2F00_AD01,
+        5 => 0x9610_940E_1311_0908,
+        6 => 0x0303_0303_0303_0303,
+        7 => 0x18A1_9C9F_0F99_0303,
+        8 => 0x0404_0404_0404_04A4,
+        9 => 0x0404_0404_0404_0404,
+        10 => 0x0404_0404_0404_0404,
+        11 => 0x041B_0BAF_0A04_0404,
+        12 => 0x0404_0404_0404_0400,
+        13 => 0x0404_0404_0404_0404,
+        14 => 0x0404_0404_0404_0404,
+        15 => 0x2F2F_0DAE_0C04_0404,
+        _ => 0,
+    }
+}
+
+// What a token's first byte tells of its kind.
+fn lead(a: u8) -> u32
+    ensures { λ r. ⌜ r ≡ leadKind a ⌝ }
+{
+    ((lead_row(a / 8) >> (a % 8 * 8)) % 256) as u32
+}
+
+// One byte of white space before a byte of ASCII that is none.
+fn short_space(text: &[u8], start: usize) -> Lexed
+    requires { ⌜ (start + 3 ≤ length (now text)) × (getD (now text) start 0 < 0x80) × (whiteSpace (getD (now text) start 0) ≡ true) ⌝ }
+    ensures { λ r. ⌜ Told r (endsAt start (lexeme (afterDotAt (now (text .entry)) start) (drop start (now (text .entry))))) ⌝ }
+{
+    let b = text[start + 1];
+    if (b < 0x80) & !is_ascii_space(b) {
+        return Lexed {
+            kind: SyntaxKind::Whitespace,
+            end: start + 1,
+        };
+    }
+    untold(start)
+}
+
+// A word of ASCII that ends at another byte of ASCII.
+fn short_word(text: &[u8], start: usize) -> Lexed
+    requires { ⌜ (start < length (now text)) × (getD (now text) start 0 < 0x80) × (startsWord (getD (now text) start 0) ≡ true) ⌝ }
+    ensures { λ r. ⌜ Told r (endsAt start (lexeme (afterDotAt (now (text .entry)) start) (drop start (now (text .entry))))) ⌝ }
+{
+    let j = skip_words(text, start);
+    if text.len() - j >= 8 {
+        if text[j] < 0x80 {
+            return Lexed {
+                kind: SyntaxKind::BareWord,
+                end: j,
+            };
+        }
+    }
+    untold(start)
+}
+
+// One or two characters, where neither a comment nor a third character is meant; `kind` is that of the first alone.
+fn short_operator(text: &[u8], start: usize, kind: u32) -> Lexed
+    requires { ⌜ (start + 3 ≤ length (now text)) × Operates (getD (now text) start 0) × (single (getD (now text) start 0) ≡ kind) ⌝ }
+    ensures { λ r. ⌜ Told r (endsAt start (lexeme (afterDotAt (now (text .entry)) start) (drop start (now (text .entry))))) ⌝ }
+{
+    let a = text[start];
+    let b = text[start + 1];
+    if is_spaceship(a, b, text[start + 2]) | (a == b'-') & (b == b'-') | (a == b'/') & (b == b'*') {
+        return untold(start);
+    }
+    let p = pair(a, b);
+    if p != SyntaxKind::NoToken {
+        return Lexed {
+            kind: p,
+            end: start + 2,
+        };
+    }
+    Lexed {
+        kind,
+        end: start + 1,
+    }
+}
+
+// A number of one or two runs of digits that ends at a byte of ASCII at which none goes on.
+fn short_number(text: &[u8], start: usize) -> Lexed
+    requires { ⌜ (start < length (now text)) × (digit (getD (now text) start 0) ≡ true) ⌝ }
+    ensures { λ r. ⌜ Told r (endsAt start (lexeme (afterDotAt (now (text .entry)) start) (drop start (now (text .entry))))) ⌝ }
+{
+    let j = skip_digits(text, start + 1);
+    if text.len() - j < 8 {
+        return untold(start);
+    }
+    if text[j] != b'.' {
+        return number_to(text[j], start, j);
+    }
+    if after_dot(text, start) {
+        return untold(start);
+    }
+    let i = skip_digits(text, j + 1);
+    if text.len() - i < 8 {
+        return untold(start);
+    }
+    number_to(text[i], start, i)
+}
+
+// The number up to `end`, where the byte `b` there is of ASCII and no word's.
+fn number_to(b: u8, start: usize, end: usize) -> Lexed
+    ensures { λ r. ⌜ ((r .kind ≡ NoToken → ⊥) → (r ≡ record { kind = Number; end = «end» }) × (b < 0x80) × (wordCharacter b ≡ false)) ⌝ }
+{
+    if (b < 0x80) & !is_word_byte(b, false) {
+        return Lexed {
+            kind: SyntaxKind::Number,
+            end,
+        };
+    }
+    untold(start)
+}
+
+fn skip_words(text: &[u8], at: usize) -> usize
+    requires { ⌜ at ≤ length (now text) ⌝ }
+    ensures { λ r. ⌜ Skips asciiWord (now (text .entry)) at r ⌝ }
+{
+    let class = Class {
+        a: b'0',
+        b: b':',
+        c: b'A',
+        d: b'[',
+        e: b'_',
+        f: b'`',
+        g: b'a',
+        h: b'{',
+    };
+    runs::skip(text, at, false, class)
+}
+
+fn skip_digits(text: &[u8], at: usize) -> usize
+    requires { ⌜ at ≤ length (now text) ⌝ }
+    ensures { λ r. ⌜ Skips digit (now (text .entry)) at r ⌝ }
+{
+    let class = Class {
+        a: b'0',
+        b: b':',
+        c: 0,
+        d: 0,
+        e: 0,
+        f: 0,
+        g: 0,
+        h: 0,
+    };
+    runs::skip(text, at, false, class)
+}
+
+// A token at a byte.
+fn read_rest(text: &[u8], start: usize) -> Lexed
+    requires { ⌜ start < length (now text) ⌝ }
+    ensures { λ r. ⌜ r ≡ endsAt start (lexeme (afterDotAt (now (text .entry)) start) (drop start (now (text .entry)))) ⌝ }
+{
     let a = text[start];
     if a >= 0x80 {
         return read_wide(text, start);
@@ -238,28 +454,26 @@ fn when(test: bool, kind: u32) -> u32
     if test { kind } else { 0 }
 }
 
-// The kind of two characters together, or 0 where they are none.
+// The kind of two characters together, or 0 where they are none. No test depends on another, so that none is a jump.
 fn pair(a: u8, b: u8) -> u32
     ensures { λ r. ⌜ r ≡ pair a b ⌝ }
 {
-    match a {
-        b'-' => when(b == b'>', SyntaxKind::Arrow),
-        b':' => when(b == b':', SyntaxKind::DoubleColon),
-        b'|' => when(b == b'|', SyntaxKind::Concatenation),
-        b'@' => when(b == b'@', SyntaxKind::DoubleAt),
-        b'!' => when(b == b'=', SyntaxKind::NotEquals),
-        b'=' => when((b == b'=') | (b == b'>'), SyntaxKind::Equals),
-        b'<' => {
-            if b == b'>' {
-                SyntaxKind::NotEquals
-            } else {
-                when(b == b'=', SyntaxKind::LessOrEquals)
-            }
-        }
-        b'>' => when(b == b'=', SyntaxKind::GreaterOrEquals),
-        b'\\' => when((b == b'G') | (b == b'g'), SyntaxKind::VerticalDelimiter),
-        _ => 0,
-    }
+    when((a == b'-') & (b == b'>'), SyntaxKind::Arrow)
+        | when((a == b':') & (b == b':'), SyntaxKind::DoubleColon)
+        | when((a == b'|') & (b == b'|'), SyntaxKind::Concatenation)
+        | when((a == b'@') & (b == b'@'), SyntaxKind::DoubleAt)
+        | when((a == b'!') & (b == b'='), SyntaxKind::NotEquals)
+        | when(
+            (a == b'=') & ((b == b'=') | (b == b'>')),
+            SyntaxKind::Equals,
+        )
+        | when((a == b'<') & (b == b'>'), SyntaxKind::NotEquals)
+        | when((a == b'<') & (b == b'='), SyntaxKind::LessOrEquals)
+        | when((a == b'>') & (b == b'='), SyntaxKind::GreaterOrEquals)
+        | when(
+            (a == b'\\') & ((b == b'G') | (b == b'g')),
+            SyntaxKind::VerticalDelimiter,
+        )
 }
 
 fn is_spaceship(a: u8, b: u8, c: u8) -> bool
