@@ -82,6 +82,15 @@ module _ (s : List ℕ) (i j : ℕ) (h : i < length s) (e : digit (getD s i 0) �
       (ap (λ (o : Opening). exponent (o .hex) (chars (drop m s))) opens ∙ exponent-at-none false s m x) in
       (f .0, omega (arith, f .1))
 
+-- a byte of ASCII that is no word's makes no word of a number before it
+pub no-more : (s : List ℕ) (m : ℕ) → m < length s → getD s m 0 < 0x80 → wordCharacter (getD s m 0) ≡ false → goesOn (first (chars (drop m s))) ≡ false
+unfolding alphanumeric
+no-more s m k l w =
+    let c = getD s m 0 in
+    let t = neither (alphabetic c || numeric c) (eqb c underscore) w in
+    let a = neither (alphabetic c) (numeric c) (t .0) .0 in
+    ap (λ (cs : List Char). goesOn (first cs)) (chars-ascii s m k l) ∙ rw (a, t .1)
+
 -- The byte at m is of ASCII and no word's: figures that end there are a number.
 module _ (s : List ℕ) (i m : ℕ) (h : i < length s) (e : digit (getD s i 0) ≡ true) (k : m < length s) (l : getD s m 0 < 0x80) (w : wordCharacter (getD s m 0) ≡ false) where
   untagged : tagByte (getD s m 0) ≡ false
@@ -90,16 +99,8 @@ module _ (s : List ℕ) (i m : ℕ) (h : i < length s) (e : digit (getD s i 0) �
   no-mark : marks false (getD s m 0) ≡ false
   no-mark = no-letter smallE capitalE refl (getD s m 0) l (or-right (digit (getD s m 0)) (not (tagByte (getD s m 0))) (ap not untagged))
 
-  no-more : goesOn (first (chars (drop m s))) ≡ false
-  unfolding alphanumeric
-  no-more =
-      let c = getD s m 0 in
-      let t = neither (alphabetic c || numeric c) (eqb c underscore) w in
-      let a = neither (alphabetic c) (numeric c) (t .0) .0 in
-      ap (λ (cs : List Char). goesOn (first cs)) (chars-ascii s m k l) ∙ rw (a, t .1)
-
   numbered : (d : Bool) → figures d (chars (drop i s)) .well ≡ true → m ≡ i + figures d (chars (drop i s)) .size → record { kind = Number; end = m } ≡ endsAt i (number d (chars (drop i s)))
-  numbered d f g = well s i m d d refl f g (stops s i m (lead-to s i _ m (figures-lead s i h e d) g) (sym no-more) refl)
+  numbered d f g = well s i m d d refl f g (stops s i m (lead-to s i _ m (figures-lead s i h e d) g) (sym (no-more s m k l w)) refl)
 
   -- one run of digits
   pub told-whole : Skips digit s (i + 1) m → eqb (getD s m 0) dot ≡ false → (d : Bool) → record { kind = Number; end = m } ≡ endsAt i (number d (chars (drop i s)))

@@ -816,8 +816,23 @@ fn is_word(text: &[u8], start: usize, end: usize) -> bool
     true
 }
 
-// The number from `start` to `at`, or the word that it is the start of.
+// The number from `start` to `at`, or the word that it is the start of. `number_word`, whose tables need room, stays out of line by being called twice.
 fn read_identifier_starting_with_number(text: &[u8], start: usize, at: usize) -> Lexed
+    requires { ⌜ AsciiTo (now text) start at ⌝ }
+    ensures { λ r. ⌜ r ≡ endsAt start (closing (at - start) (chars (drop start (now (text .entry))))) ⌝ }
+{
+    if at < text.len() {
+        let l = number_to(text[at], start, at);
+        if l.kind != SyntaxKind::NoToken {
+            return l;
+        }
+        return number_word(text, start, at);
+    }
+    number_word(text, start, at)
+}
+
+// The same by the character there, whatever it is.
+fn number_word(text: &[u8], start: usize, at: usize) -> Lexed
     requires { ⌜ AsciiTo (now text) start at ⌝ }
     ensures { λ r. ⌜ r ≡ endsAt start (closing (at - start) (chars (drop start (now (text .entry))))) ⌝ }
 {

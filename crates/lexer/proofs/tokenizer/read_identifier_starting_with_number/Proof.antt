@@ -1,28 +1,20 @@
--- The number stops, or goes on as a word or as an error. Assumes nothing.
+-- By the byte there, or by the character. Assumes nothing.
 use borrow.Author.Needs.{needs}
-use borrow.Author.Tests.{not-true, not-false}
-use mathlib.Core.Bool.{true, false}
+use mathlib.Core.Path.{refl, sym, _∙_}
 use denote.Ref.{now}
-use Rattle.lexer.proofs.Numbers.{stops, goes}
+use Rattle.lexer.proofs.Numbers.{stops}
+use Rattle.lexer.proofs.ShortNumbers.{no-more}
 use Rattle.lexer.proofs.tokenizer.read_identifier_starting_with_number.Statement.{statement}
 use Rattle.lexer.proofs.tokenizer.read_identifier_starting_with_number.Tie as tie
 
 returns : tie.Need-returns
 returns c =
-    let st = c .before .before .before in
-    stops (now (st .args .text)) (st .args .start) (st .args .at) (st .pre) (c .before .goes-on .ensures) (not-true _ (c .if1 .taken))
-
-returns-2 : tie.Need-returns-2
-returns-2 c =
-    let e = c .before .before .before in
-    let st = e .before .before .before in
-    goes (now (st .args .text)) (st .args .start) (st .args .at) (st .pre) (e .before .goes-on .ensures) (not-false _ (e .if1 .left)) _ (c .before .before .read-word .ensures) (c .before .is-word .ensures) true (c .if2 .taken)
-
-returns-3 : tie.Need-returns-3
-returns-3 c =
-    let e = c .before .before .before in
-    let st = e .before .before .before in
-    goes (now (st .args .text)) (st .args .start) (st .args .at) (st .pre) (e .before .goes-on .ensures) (not-false _ (e .if1 .left)) _ (c .before .before .read-word .ensures) (c .before .is-word .ensures) false (c .if2 .left)
+    let g = c .before .before .before .before in
+    let st = g .before .before in
+    let s = now (st .args .text) in
+    let b = c .before .before .number-to .ensures (c .if2 .taken) in
+    b .0 ∙ stops s (st .args .start) (st .args .at) (st .pre) (sym (no-more s (st .args .at) (g .if1 .taken) (b .1) (b .2))) refl
 
 pub read-identifier-starting-with-number-spec : {M : Type 1} → statement M
-read-identifier-starting-with-number-spec = tie.close (tie.spec (λ c κs. search needs) returns (λ c κs. search needs) (λ c κs. search needs) returns-2 returns-3)
+read-identifier-starting-with-number-spec =
+    tie.close (tie.spec (λ c. search needs) (λ c κs. search needs) returns (λ c κs. search needs) (λ c. c .number-word .ensures) (λ c κs. search needs) (λ c. c .number-word2 .ensures))
