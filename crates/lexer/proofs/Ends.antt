@@ -1,10 +1,11 @@
 -- What a reader answers, from what is known of the lexeme or of the part. Assumes nothing.
-use Prim.Native.Nat.{ℕ, _+_, _≤_, _<_}
+use Prim.Native.Nat.{ℕ, _+_, _-_, _≤_, _<_}
 use mathlib.Core.Path.{_≡_, sym, ap, _∙_}
 use native.Mathlib.Omega.{arith}
 use mathlib.Core.List.{List}
 use mathlib.Core.Bool.{Bool, cond}
-use lib.ListN.{length, drop}
+use lib.ListN.{length, take, drop}
+use lib.Seq.{take-all}
 use Rattle.rules.specs.Lexeme.{Lexeme, is, Body, enclosed}
 use Rattle.rules.specs.Numbers.{Figures}
 use Rattle.rules.specs.Tokens.{Token, token, tokenAt, lexeme, afterDotAt}
@@ -31,3 +32,10 @@ next-is s at r e = ap (λ (x : Lexed). token (x .kind) at (x .end)) (sym e)
 -- it has at least one byte, and lies in the text
 pub next-lies : (s : List ℕ) (at : ℕ) (r : Lexed) → at < length s → r ≡ endsAt at (lexeme (afterDotAt s at) (drop at s)) → (at < r .end) × (r .end ≤ length s)
 next-lies s at r h e = let f = step-fits s at h in let n = ap (λ (t : Token). t .end) (next-is s at r e) in (omega arith, omega arith)
+
+-- the whole text, as a slice of itself
+pub sliced : (s : List ℕ) → take (length s - 0) s ≡ s
+sliced s = take-all (length s - 0) s (omega arith)
+
+pub sliced-token : (i : ℕ) (s : List ℕ) → let t = take (length s - 0) s in endsAt i (lexeme (afterDotAt t i) (drop i t)) ≡ endsAt i (lexeme (afterDotAt s i) (drop i s))
+sliced-token i s = ap (λ (t : List ℕ). endsAt i (lexeme (afterDotAt t i) (drop i t))) (sliced s)

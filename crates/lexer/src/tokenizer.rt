@@ -74,7 +74,7 @@ pub fn step(text: &[u8], cursor: usize) -> Stepped
     if cursor > text.len() {
         return refused_step(4, cursor);
     }
-    let l = next_token(text, cursor);
+    let l = next_token(&text[0..], cursor);
     let end = l.end;
     Stepped {
         number: 0,
@@ -99,7 +99,7 @@ pub fn next_token(text: &[u8], start: usize) -> Lexed
         };
     }
     if text.len() - start < 3 {
-        return read_rest(text, start);
+        return read_rest(&text[0..], start);
     }
     let l = read_short(&text[0..], start);
     if l.kind != SyntaxKind::NoToken {

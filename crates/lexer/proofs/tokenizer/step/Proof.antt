@@ -12,6 +12,7 @@ use Rattle.lexer.specs.Ends.{stepped}
 use Rattle.rules.specs.Answers.{Done}
 use Rattle.lexer.specs.declared.tokenizer.Lexed.{Lexed}
 use Rattle.lexer.specs.declared.tokenizer.Stepped.{Stepped}
+use Rattle.lexer.proofs.Ends.{sliced-token}
 use Rattle.lexer.proofs.tokenizer.step.Statement.{statement}
 use Rattle.lexer.proofs.tokenizer.step.Tie as tie
 
@@ -35,11 +36,11 @@ returns-2 c =
     let e = c .before .before in
     c .refused-step2 .ensures ∙ ap stepped (sym (step-beyond (s e) (i e) (fits e) (c .before .if2 .taken)))
 
-cast-t9 : tie.Need-cast-t9
-cast-t9 c =
-    let e = c .before .before in
-    let r = ap (λ (l : Lexed). l .end) (c .next-token .ensures) in
-    omega (arith, fits e, step-ends (s e) (i e) (c .before .if2 .left))
+cast-t12 : tie.Need-cast-t12
+cast-t12 c =
+    let e = c .before .before .before in
+    let r = ap (λ (l : Lexed). l .end) (c .next-token .ensures ∙ sliced-token (i e) (s e)) in
+    omega (arith, fits e, step-ends (s e) (i e) (c .before .before .if2 .left))
 
 abbrev there : ℕ → Lexed → Stepped
 there at l = record { number = Done; value = l .end; token = record { kind = l .kind; start = at; end = l .end }; cursor = l .end }
@@ -47,34 +48,22 @@ there at l = record { number = Done; value = l .end; token = record { kind = l .
 returns-3 : tie.Need-returns-3
 unfolding tokenAt
 returns-3 c =
-    let e = c .before .before in
-    ap (there (i e)) (c .next-token .ensures) ∙ ap stepped (sym (step-done (s e) (i e) (fits e) (c .before .if2 .left)))
+    let e = c .before .before .before in
+    ap (there (i e)) (c .next-token .ensures ∙ sliced-token (i e) (s e)) ∙ ap stepped (sym (step-done (s e) (i e) (fits e) (c .before .before .if2 .left)))
 
 pub step-spec : {M : Type 1} → statement M
 step-spec =
     tie.close
     (tie.spec
-    max-query-size-requires
-    refused-step-requires
+    (λ c κs. search needs)
+    (λ c κs. search needs)
     returns
-    refused-step-requires-2
+    (λ c κs. search needs)
     returns-2
-    next-token-requires
-    cast-t8
-    cast-t9
+    (λ c. search needs)
+    (λ c. search needs)
+    (λ c. search needs)
+    (λ c κs. search needs)
+    (λ c. search needs)
+    cast-t12
     returns-3)
-  where
-    max-query-size-requires : tie.Need-max-query-size-requires
-    max-query-size-requires c κs = search needs
-
-    refused-step-requires : tie.Need-refused-step-requires
-    refused-step-requires c κs = search needs
-
-    refused-step-requires-2 : tie.Need-refused-step-requires-2
-    refused-step-requires-2 c κs = search needs
-
-    next-token-requires : tie.Need-next-token-requires
-    next-token-requires c κs = search needs
-
-    cast-t8 : tie.Need-cast-t8
-    cast-t8 c = search needs
