@@ -1,14 +1,22 @@
 -- A loop over a body, which F reads: closed, it has one kind, else another. Assumes nothing.
-use Prim.Native.Nat.{ℕ, _+_, _≤_}
+use Prim.Native.Nat.{ℕ, _+_, _≤_, _<_}
 use native.Mathlib.Omega.{arith}
 use mathlib.Core.Path.{_≡_, refl, sym, ap, _∙_}
 use mathlib.Core.List.{List, []}
-use lib.ListN.{length, drop}
+use mathlib.Core.Bool.{false, not, _&&_}
+use lib.ListN.{length, getD, drop}
+use lib.Dec.{eqb}
+use borrow.Author.Tests.{eqb-false}
 use Rattle.rules.specs.Utf8.{Char, chars}
+use Rattle.rules.specs.Characters.{backslash}
+use Rattle.rules.specs.Quotes.{quotedBody}
 use Rattle.rules.specs.Lexeme.{Body, further, closedBy, openTo, enclosed}
 use Rattle.rules.proofs.Decoding.{chars-end}
+use Rattle.rules.proofs.Bodies.{quoted-at}
+use Rattle.runs.specs.Classes.{Skips}
 use Rattle.lexer.specs.declared.tokenizer.Lexed.{Lexed}
 use Rattle.lexer.specs.Ends.{endsAt}
+use Rattle.lexer.proofs.Skips.{over, neither}
 
 -- what there is to answer from i on
 abbrev pub reading : (List Char → Body) → List ℕ → ℕ → ℕ → ℕ → Lexed
@@ -35,3 +43,14 @@ module _ (F : List Char → Body) (s : List ℕ) (kind error at i : ℕ) (kept :
         cuts = λ n e. by (openTo n) (i + n) e refl;
         ends = λ e h. by (openTo 0) i (ap F (chars-end s i h) ∙ e) (omega arith);
       }
+
+-- in quotes, bytes that are neither the quote nor a backslash are skipped
+pub quoted-over :
+    (q : ℕ) → 0 < q → q < 0x80 → (q ≡ backslash → ⊥) → (s : List ℕ) (kind error at i j : ℕ) → Skips (λ x. not (eqb x q) && not (eqb x backslash)) s i j
+    → reading (quotedBody q false) s kind error i ≡ reading (quotedBody q false) s kind error at
+    → reading (quotedBody q false) s kind error j ≡ reading (quotedBody q false) s kind error at
+quoted-over q some small other s kind error at i j =
+    over (λ k. reading (quotedBody q false) s kind error k ≡ reading (quotedBody q false) s kind error at) (λ x. not (eqb x q) && not (eqb x backslash)) s i j (λ k h e w.
+    let n = neither (getD s k 0) q backslash e in
+    turn (quotedBody q false) s kind error at k w .goes 1
+    (quoted-at q some small other s k h .pass (eqb-false (getD s k 0) backslash (n .1)) (eqb-false (getD s k 0) q (n .0))))

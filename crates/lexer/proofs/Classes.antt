@@ -19,6 +19,13 @@ use Rattle.rules.proofs.Tests.{or-left, or-right}
 use Rattle.rules.proofs.Tables.{agree-at, ascii-space, alphanumeric-none}
 use Rattle.lexer.specs.Words.{wordWith, wordMask}
 
+pub ascii-agree : (p q : ℕ → Bool) → ((b : ℕ) → b < 0x80 → p b ≡ q b) → (b : ℕ) → (ltb b 0x80 && p b) ≡ (ltb b 0x80 && q b)
+ascii-agree p q e b = go (ltb b 0x80) refl
+  where
+    go : (t : Bool) → ltb b 0x80 ≡ t → (t && p b) ≡ (t && q b)
+    go true h = e b (ltb-true b 0x80 h)
+    go false h = refl
+
 pub space-byte : (b : ℕ) → (eqb b 0x20 || within 0x09 0x0D b) ≡ (ltb b 0x80 && whiteSpace b)
 space-byte b = go (ltb b 0x80) refl
   where
@@ -71,11 +78,7 @@ ascii-bit true = agree-at (λ b. bit (wordMask true b) b) numberWord 0x80 refl
 ascii-bit false = agree-at (λ b. bit (wordMask false b) b) wordCharacter 0x80 refl
 
 pub word-bit : (d : Bool) (b m : ℕ) → m ≡ wordMask d b → (ltb b 0x80 && bit m b) ≡ (ltb b 0x80 && wordWith d b)
-word-bit d b m e = ap (λ (m : ℕ). ltb b 0x80 && bit m b) e ∙ go (ltb b 0x80) refl
-  where
-    go : (t : Bool) → ltb b 0x80 ≡ t → (t && bit (wordMask d b) b) ≡ (t && wordWith d b)
-    go true h = ascii-bit d b (ltb-true b 0x80 h)
-    go false h = refl
+word-bit d b m e = ap (λ (m : ℕ). ltb b 0x80 && bit m b) e ∙ ascii-agree (λ b. bit (wordMask d b) b) (wordWith d) (ascii-bit d) b
 
 -- A tag's bytes are the word bytes of ASCII.
 pub ascii-tag : (b : ℕ) → b < 0x80 → wordCharacter b ≡ tagByte b

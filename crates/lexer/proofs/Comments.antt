@@ -5,9 +5,9 @@ use native.Mathlib.Omega.{arith}
 use native.Mathlib.Decide.{decLt}
 use native.Mathlib.Nat.{add-zero}
 use native.Mathlib.Numerals.{add-one}
-use mathlib.Core.Path.{_≡_, refl, ap, _∙_}
+use mathlib.Core.Path.{_≡_, refl, sym, ap, _∙_}
 use mathlib.Core.List.{List, _∷_}
-use mathlib.Core.Bool.{Bool, true, false, _&&_}
+use mathlib.Core.Bool.{Bool, true, false, not, _&&_}
 use lib.ListN.{length, getD, drop}
 use lib.Seq.{getD-drop}
 use lib.Dec.{leb, eqb}
@@ -23,7 +23,9 @@ use Rattle.rules.proofs.Bytes.{byte-step, next-is}
 use Rattle.rules.proofs.Comments.{comment-taken, comment-open, comment-less, comment-close, comment-other}
 use Rattle.lexer.specs.declared.tokenizer.Lexed.{Lexed}
 use Rattle.lexer.specs.Ends.{endsAt}
+use Rattle.runs.specs.Classes.{Skips}
 use Rattle.lexer.proofs.Runs.{ascii}
+use Rattle.lexer.proofs.Skips.{over, neither}
 
 abbrev pub lexed : ℕ → Body → Lexed
 lexed j b = endsAt j (enclosed 0 b Comment ErrorMultilineCommentIsNotClosed)
@@ -114,3 +116,9 @@ module _ (s : List ℕ) (j : ℕ) where
             (commentBody d false) (λ c. leb 0x80 c) refl
             (λ c cs q. comment-other c cs d (high slash star (c .code) (omega arith) q (first cs)) (high star slash (c .code) (omega arith) q (first cs)))
             s j h (le-leb 0x80 (charAt (drop j s) .code) (code-high (drop j s) (omega arith)))
+
+-- bytes that begin no pair are skipped
+pub comment-over : (s : List ℕ) (i j d : ℕ) → Skips (λ x. not (eqb x star) && not (eqb x slash)) s i j → commentAt s j d ≡ commentAt s i d
+comment-over s i j d r =
+    over (λ k. commentAt s k d ≡ commentAt s i d) (λ x. not (eqb x star) && not (eqb x slash)) s i j
+    (λ k h e w. let n = neither (getD s k 0) star slash e in sym (comment-on s k h d (rw (n .0)) (rw (n .1))) ∙ w) r refl

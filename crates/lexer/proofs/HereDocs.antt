@@ -1,20 +1,43 @@
--- What `read_dollar` answers by the tag's end and by the search. Assumes nothing.
-use Prim.Native.Nat.{ℕ, _+_, _-_, _*_, _≤_}
+-- The search for a delimiter, and what `read_dollar` answers by the tag's end and by the search. Assumes nothing.
+use Prim.Native.Nat.{ℕ, _+_, _-_, _*_, _≤_, _<_}
 use native.Mathlib.Omega.{arith}
 use mathlib.Core.Path.{_≡_, refl, sym, ap, _∙_}
 use mathlib.Core.List.{List}
+use mathlib.Core.Bool.{false, not}
 use mathlib.Core.Option.{Option, some, none}
 use lib.ListN.{length, getD, drop}
+use lib.Dec.{eqb}
+use borrow.Author.Tests.{eqb-false, not-true}
 use Rattle.rules.specs.Utf8.{chars}
 use Rattle.rules.specs.Characters.{dollar}
 use Rattle.rules.specs.Kinds.{HereDoc, DollarSign}
-use Rattle.rules.specs.Dollars.{find, hereDoc, dollarLexeme}
+use Rattle.rules.specs.Dollars.{begins, find, hereDoc, dollarLexeme}
 use Rattle.rules.proofs.Decoding.{within-text}
 use Rattle.rules.proofs.Dollars.{here-none}
-use Rattle.rules.proofs.HereDocs.{tags-none, opening, opening-first, opening-plain, opening-size, here-by, later}
+use Rattle.rules.proofs.HereDocs.{tags-none, opening, opening-first, opening-plain, opening-size, here-by, later, find-pass, no-dollar}
+use Rattle.runs.specs.Classes.{Skips}
 use Rattle.lexer.specs.declared.tokenizer.Lexed.{Lexed}
 use Rattle.lexer.specs.Ends.{endsAt}
 use Rattle.lexer.specs.HereDocs.{Delimiter, TagEnd, foundEnd}
+use Rattle.lexer.proofs.Skips.{over}
+
+-- what the search for d finds from i on
+abbrev pub searched : List ℕ → List ℕ → ℕ → ℕ
+searched d s i = foundEnd i (length d) (find d (chars (drop i s)))
+
+next-end : (i n : ℕ) (o : Option ℕ) → foundEnd i n (later 1 o) ≡ foundEnd (i + 1) n o
+next-end i n none = refl
+next-end i n (some m) = omega arith
+
+-- a byte is passed where d does not begin
+pub search-on : (d : List ℕ) → getD d 0 0 ≡ dollar → (s : List ℕ) (i : ℕ) → i < length s → begins d (chars (drop i s)) ≡ false → searched d s (i + 1) ≡ searched d s i
+search-on d f s i h b = sym (ap (foundEnd i (length d)) (find-pass d f s i h b) ∙ next-end i (length d) (find d (chars (drop (i + 1) s))))
+
+-- bytes that are no `$` are skipped
+pub search-over : (d : List ℕ) → getD d 0 0 ≡ dollar → (s : List ℕ) (i j : ℕ) → Skips (λ x. not (eqb x dollar)) s i j → searched d s j ≡ searched d s i
+search-over d f s i j r =
+    over (λ k. searched d s k ≡ searched d s i) (λ x. not (eqb x dollar)) s i j
+    (λ k h e w. search-on d f s k h (no-dollar d f s k h (eqb-false (getD s k 0) dollar (not-true (eqb (getD s k 0) dollar) e))) ∙ w) r refl
 
 -- The tag bytes after the `$` at `start` end at e.
 module _ (s : List ℕ) (start e : ℕ) (t : TagEnd s (start + 1) e) where

@@ -1,6 +1,6 @@
 -- Runs of a class at an index: where they end, and what one turn of a loop over one keeps.
 -- Assumes nothing.
-use Prim.Native.Nat.{ℕ, _+_, _≤_, _<_}
+use Prim.Native.Nat.{ℕ, _+_, _-_, _≤_, _<_}
 use native.Mathlib.Omega.{arith}
 use mathlib.Core.Path.{_≡_, refl, sym, ap, _∙_}
 use mathlib.Core.List.{List, [], _∷_}
@@ -22,6 +22,8 @@ use Rattle.utf8.specs.Units.{unitAt}
 use Rattle.utf8.proofs.Units.{Here, char-unit, broken-unit, end-unit, here-at}
 use Rattle.utf8.specs.Units.{unitCode, unitLen}
 use Rattle.lexer.specs.Steps.{Step}
+use Rattle.runs.specs.Classes.{Skips}
+use Rattle.lexer.proofs.Skips.{over}
 
 -- The character that a byte of ASCII is.
 abbrev pub ascii : ℕ → Char
@@ -104,3 +106,15 @@ pub line-more : (s : List ℕ) (j : ℕ) → j < length s → (getD s j 0 ≡ li
 line-more s j h n =
     byte-step _+_ (λ x. omega arith) (λ x y z. omega arith) (run notLineFeed) notLineFeed refl (run-cons notLineFeed) s j h
     (ap (λ (cs : List Char). notLineFeed (first cs)) (sym (chars-at s j h)) ∙ ap not (next-is lineFeed (omega arith) (omega arith) s j ∙ ne-eqb (getD s j 0) lineFeed n))
+
+-- the same of bytes that are skipped
+module _ (s : List ℕ) (i j : ℕ) where
+  pub ascii-over : (p : ℕ → Bool) → Skips (λ b. ltb b 0x80 && p b) s i j → Reaches p s i j
+  ascii-over p r = over (Reaches p s i) (λ b. ltb b 0x80 && p b) s i j (λ k h e w. omega (arith, byte-more p s k h true (sym e) refl)) r refl
+
+  -- and up to a byte of ASCII at which the run ends
+  pub run-over : (p : ℕ → Bool) → Skips (λ b. ltb b 0x80 && p b) s i j → 8 ≤ length s - j → getD s j 0 < 0x80 → j ≡ i + run p (chars (drop i s))
+  run-over p r h l = omega (arith, ascii-over p r, byte-stop p s j (omega arith) _ refl l (r .stop h))
+
+  pub line-over : Skips notLineFeed s i j → Reaches notLineFeed s i j
+  line-over r = over (Reaches notLineFeed s i) notLineFeed s i j (λ k h e w. omega (arith, line-more s k h (λ q. clash e (ap notLineFeed q)))) r refl

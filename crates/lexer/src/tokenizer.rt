@@ -9,7 +9,7 @@ use utf8::unit_at;
 use utf8::unit_code;
 use utf8::unit_len;
 ghost use mathlib.Core.Path.{_≡_};
-ghost use mathlib.Core.Bool.{Bool, true, false, cond, _&&_};
+ghost use mathlib.Core.Bool.{Bool, true, false, not, cond, _&&_};
 ghost use Prim.Native.Nat.{_+_, _-_, _≤_, _<_};
 ghost use lib.ListN.{length, getD, take, drop};
 ghost use lib.Dec.{ltb, eqb};
@@ -527,10 +527,31 @@ fn space_len(text: &[u8], at: usize) -> usize
     }
 }
 
+// Over white space of ASCII, by eights: what is left of it is the caller's.
+fn skip_spaces(text: &[u8], at: usize) -> usize
+    requires { ⌜ at ≤ length (now text) ⌝ }
+    ensures { λ r. ⌜ Skips (λ b. ltb b 0x80 && whiteSpace b) (now (text .entry)) at r ⌝ }
+{
+    let k = Class {
+        a: b'\t',
+        b: 14,
+        c: b' ',
+        d: b'!',
+        e: 0,
+        f: 0,
+        g: 0,
+        h: 0,
+    };
+    runs::skip(text, at, false, k)
+}
+
 fn read_whitespace(text: &[u8], at: usize) -> usize
     ensures { λ r. ⌜ r ≡ at + run whiteSpace (chars (drop at (now (text .entry)))) ⌝ }
 {
     let mut j = at;
+    if j < text.len() {
+        j = skip_spaces(text, j);
+    }
     while j < text.len() {
         let b = text[j];
         if is_ascii_space(b) {
@@ -549,11 +570,32 @@ fn read_whitespace(text: &[u8], at: usize) -> usize
     j
 }
 
+// Up to a byte `a`, likewise.
+fn skip_to(text: &[u8], at: usize, a: u8) -> usize
+    requires { ⌜ (at ≤ length (now text)) × (a < 0x80) ⌝ }
+    ensures { λ r. ⌜ Skips (λ x. not (eqb x a)) (now (text .entry)) at r ⌝ }
+{
+    let k = Class {
+        a,
+        b: a + 1,
+        c: 0,
+        d: 0,
+        e: 0,
+        f: 0,
+        g: 0,
+        h: 0,
+    };
+    runs::skip(text, at, true, k)
+}
+
 // No byte of a longer character is a line feed, so bytes do.
 fn read_single_line_comment(text: &[u8], at: usize) -> usize
     ensures { λ r. ⌜ r ≡ at + run notLineFeed (chars (drop at (now (text .entry)))) ⌝ }
 {
     let mut j = at;
+    if j < text.len() {
+        j = skip_to(text, j, b'\n');
+    }
     while j < text.len() {
         if text[j] == b'\n' {
             return j;
@@ -577,12 +619,33 @@ fn two_at(text: &[u8], at: usize, a: u8, b: u8) -> bool
     text[at + 1] == b
 }
 
+// Up to a byte `a` or `b`, likewise.
+fn skip_to_either(text: &[u8], at: usize, a: u8, b: u8) -> usize
+    requires { ⌜ (at ≤ length (now text)) × (a < 0x80) × (b < 0x80) × (a ≡ b → ⊥) ⌝ }
+    ensures { λ r. ⌜ Skips (λ x. not (eqb x a) && not (eqb x b)) (now (text .entry)) at r ⌝ }
+{
+    let k = Class {
+        a,
+        b: a + 1,
+        c: b,
+        d: b + 1,
+        e: 0,
+        f: 0,
+        g: 0,
+        h: 0,
+    };
+    runs::skip(text, at, true, k)
+}
+
 // `deeper` comments are open inside the outermost one. Only ASCII counts here, so bytes do.
 fn read_multi_line_comment(text: &[u8], at: usize) -> Lexed
     ensures { λ r. ⌜ r ≡ endsAt at (enclosed 0 (commentBody 0 false (chars (drop at (now (text .entry))))) Comment ErrorMultilineCommentIsNotClosed) ⌝ }
 {
     let mut j = at;
     let mut deeper: usize = 0;
+    if j < text.len() {
+        j = skip_to_either(text, j, b'*', b'/');
+    }
     while j < text.len() {
         if two_at(text, j, b'*', b'/') {
             if deeper == 0 {
@@ -600,7 +663,7 @@ fn read_multi_line_comment(text: &[u8], at: usize) -> Lexed
             j += 2;
             continue;
         }
-        j += 1;
+        j = skip_to_either(text, j + 1, b'*', b'/');
     }
     Lexed {
         kind: SyntaxKind::ErrorMultilineCommentIsNotClosed,
@@ -855,7 +918,7 @@ fn number_word(text: &[u8], start: usize, at: usize) -> Lexed
     }
 }
 
-// A string or an identifier, from after its opening quote, byte by byte: no byte of ASCII lies inside a character. Of a character that is
+// A string or an identifier, from after its opening quote, by bytes: no byte of ASCII lies inside a character. Of a character that is
 // taken, the bytes after the first pass as any others do.
 fn read_string(text: &[u8], at: usize, quote: u8, success_type: u32, error_type: u32) -> Lexed
     requires { ⌜ (0 < quote) × (quote < 0x80) × (quote ≡ backslash → ⊥) ⌝ }
@@ -863,6 +926,10 @@ fn read_string(text: &[u8], at: usize, quote: u8, success_type: u32, error_type:
 {
     let mut i = at;
     while i < text.len() {
+        i = skip_to_either(text, i, quote, b'\\');
+        if i == text.len() {
+            break;
+        }
         let b = text[i];
         if b == b'\\' {
             if i + 1 == text.len() {
@@ -979,6 +1046,10 @@ fn find_delimiter(text: &[u8], at: usize, delimiter: &[u8]) -> usize
 {
     let mut i = at;
     while i < text.len() {
+        i = skip_to(text, i, b'$');
+        if i == text.len() {
+            break;
+        }
         if text[i] == b'$' {
             if matches(text, i, delimiter) {
                 return i + delimiter.len();

@@ -8,7 +8,7 @@ use Rattle.rules.specs.Tokens.{afterDotAt}
 use Rattle.rules.proofs.RuleBytes.{by-letters}
 use Rattle.lexer.specs.declared.tokenizer.Lexed.{Lexed}
 use Rattle.lexer.proofs.Ends.{lexed-is}
-use Rattle.lexer.proofs.Edges.{run-over}
+use Rattle.lexer.proofs.Runs.{run-over}
 use Rattle.lexer.proofs.tokenizer.short_word.Statement.{statement}
 use Rattle.lexer.proofs.tokenizer.short_word.Tie as tie
 
@@ -19,7 +19,7 @@ returns c = λ n.
     let i = st .args .start in
     let r = c .before .before .before .skip-words in
     lexed-is i (by-letters (afterDotAt s i) s i (st .pre .0) (st .pre .1) (st .pre .2)) (r .result)
-    (run-over wordCharacter s i (r .result) (r .ensures) (omega (arith, c .before .before .if1 .taken)) (c .if2 .taken))
+    (run-over s i (r .result) wordCharacter (r .ensures) (omega (arith, c .before .before .if1 .taken)) (c .if2 .taken))
 
 returns-2 : tie.Need-returns-2
 returns-2 c = λ n. absurd (n (ap (λ (l : Lexed). l .kind) (c .untold .ensures)))
