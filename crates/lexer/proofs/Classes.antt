@@ -2,12 +2,11 @@
 -- Assumes nothing.
 use Prim.Native.Nat.{ℕ, _/_, _%_, _^_, _≤_, _<_}
 use native.Mathlib.Omega.{arith}
+use native.Mathlib.Decide.{decLt}
 use mathlib.Core.Path.{_≡_, refl, sym, ap, _∙_}
-use mathlib.Core.List.{List, _∷_}
-use mathlib.Core.Bool.{Bool, true, false, _&&_, _||_, or-false, and-false, or-assoc}
-use lib.ListN.{drop}
+use mathlib.Core.Bool.{Bool, true, false, _&&_, _||_, or-false, and-false}
 use lib.Dec.{leb, ltb, eqb}
-use borrow.Author.Tests.{ne-eqb, lt-leb, ltb-true, ltb-false, lt-ltb}
+use borrow.Author.Tests.{ne-eqb, lt-leb, le-ltb, ltb-true, ltb-false, lt-ltb}
 use Rattle.rules.specs.Utf8.{within, noCode}
 use Rattle.rules.specs.Characters.{underscore, dollar}
 use Rattle.rules.specs.Tables.{alphabeticTable, numericTable}
@@ -15,7 +14,7 @@ use Rattle.rules.specs.Classes.{inRanges, whiteSpace, alphabetic, numeric, alph
 use Rattle.rules.specs.Words.{wordCharacter}
 use Rattle.rules.specs.Numbers.{numberWord}
 use Rattle.rules.specs.Dollars.{tagByte}
-use Rattle.rules.proofs.Tests.{or-left, or-right}
+use Rattle.rules.proofs.Tests.{clash, and-right}
 use Rattle.rules.proofs.Tables.{agree-at, ascii-space, alphanumeric-none}
 use Rattle.lexer.specs.Words.{wordWith, wordMask}
 
@@ -41,33 +40,45 @@ pub word-past : (d : Bool) (c : ℕ) → 0x80 ≤ c → wordWith d c ≡ alphanu
 word-past true c h = simp (ne-eqb c underscore (λ e. omega arith), ne-eqb c dollar (λ e. omega arith), or-false)
 word-past false c h = simp (ne-eqb c underscore (λ e. omega arith), or-false)
 
--- Latin letters past ASCII: three of the table's ranges, after its first five.
-abbrev latin : ℕ → Bool
-latin c = leb 0xC0 c && ltb c 0xD7 || leb 0xD8 c && ltb c 0xF7 || leb 0xF8 c && ltb c 0x2C2
+-- Letters of many languages, in ranges of the table below U+06D4.
+abbrev common : ℕ → Bool
+common c =
+    leb 0xC0 c && ltb c 0xD7
+    || leb 0xD8 c && ltb c 0xF7
+    || leb 0xF8 c && ltb c 0x2C2
+    || leb 0x400 c && ltb c 0x482
+    || leb 0x5D0 c && ltb c 0x5EB
+    || leb 0x620 c && ltb c 0x658
+    || leb 0x66E c && ltb c 0x6D4
 
-next-range : (lo hi : ℕ) (t : List ℕ) (c : ℕ) → inRanges t c ≡ true → inRanges (lo ∷ hi ∷ t) c ≡ true
-unfolding inRanges
-next-range lo hi t c e = or-right (leb lo c && ltb c hi) (inRanges t c) e
+common-below : (c : ℕ) → c < 0x6D4 → (common c && alphabetic c) ≡ common c
+unfolding alphabetic inRanges alphabeticTable
+common-below = agree-at (λ c. common c && alphabetic c) common 0x6D4 refl
 
-three-ranges : (t : List ℕ) (c : ℕ) → latin c ≡ true
-    → inRanges (0xC0 ∷ 0xD7 ∷ 0xD8 ∷ 0xF7 ∷ 0xF8 ∷ 0x2C2 ∷ t) c ≡ true
-unfolding inRanges
-three-ranges t c e = simp or-assoc at (or-left (latin c) (inRanges t c) e)
+common-past : (c : ℕ) → 0x6D4 ≤ c → common c ≡ false
+common-past c h =
+    simp (
+      le-ltb c 0xD7 (omega arith),
+      le-ltb c 0xF7 (omega arith),
+      le-ltb c 0x2C2 (omega arith),
+      le-ltb c 0x482 (omega arith),
+      le-ltb c 0x5EB (omega arith),
+      le-ltb c 0x658 (omega arith),
+      le-ltb c 0x6D4 h,
+      and-false,
+    )
 
-latin-alphabetic : (c : ℕ) → latin c ≡ true → alphabetic c ≡ true
-unfolding alphabetic alphabeticTable
-latin-alphabetic c e =
-    next-range 0x41 0x5B (drop 2 alphabeticTable) c
-    (next-range 0x61 0x7B (drop 4 alphabeticTable) c
-    (next-range 0xAA 0xAB (drop 6 alphabeticTable) c
-    (next-range 0xB5 0xB6 (drop 8 alphabeticTable) c
-    (next-range 0xBA 0xBB (drop 10 alphabeticTable) c
-    (three-ranges (drop 16 alphabeticTable) c e)))))
+common-alphabetic : (c : ℕ) → common c ≡ true → alphabetic c ≡ true
+common-alphabetic c e = go (decLt c 0x6D4)
+  where
+    go : Dec (c < 0x6D4) → alphabetic c ≡ true
+    go (yes l) = and-right (common c) (alphabetic c) (common-below c l ∙ e)
+    go (no l) = clash e (common-past c (omega arith))
 
-pub latin-word : (d : Bool) (c : ℕ) → latin c ≡ true → wordWith d c ≡ true
+pub common-word : (d : Bool) (c : ℕ) → common c ≡ true → wordWith d c ≡ true
 unfolding alphanumeric
-latin-word true c e = rw (latin-alphabetic c e)
-latin-word false c e = rw (latin-alphabetic c e)
+common-word true c e = rw (common-alphabetic c e)
+common-word false c e = rw (common-alphabetic c e)
 
 abbrev bit : ℕ → ℕ → Bool
 bit m b = eqb ((m / 2 ^ (b % 64)) % 2) 1

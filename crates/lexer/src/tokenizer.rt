@@ -1129,19 +1129,26 @@ fn word_len(al: &AlphabeticTable, nu: &NumericTable, text: &[u8], at: usize, dol
     }
 }
 
-// Where it says so, `c` is a Latin letter past ASCII, up to U+02C1: told by comparisons, so that a word with a few of them makes no table.
-fn is_latin(c: u32) -> bool
+// Where it says so, `c` is of Latin past ASCII up to U+02C1, of Cyrillic, Hebrew or Arabic: told by comparisons, so that a word of such
+// letters makes no table.
+fn is_common_letter(c: u32) -> bool
     ensures { λ r. ⌜ (r ≡ true → (d : Bool) → wordWith d c ≡ true) ⌝ }
 {
-    (0xC0 <= c) & (c < 0xD7) | (0xD8 <= c) & (c < 0xF7) | (0xF8 <= c) & (c < 0x2C2)
+    (0xC0 <= c) & (c < 0xD7)
+        | (0xD8 <= c) & (c < 0xF7)
+        | (0xF8 <= c) & (c < 0x2C2)
+        | (0x400 <= c) & (c < 0x482)
+        | (0x5D0 <= c) & (c < 0x5EB)
+        | (0x620 <= c) & (c < 0x658)
+        | (0x66E <= c) & (c < 0x6D4)
 }
 
 // The bytes of such a letter at `at`, or 0 where there is none.
-fn latin_len(text: &[u8], at: usize) -> usize
+fn common_len(text: &[u8], at: usize) -> usize
     ensures { λ r. ⌜ ((r ≡ 0 → ⊥) → (d : Bool) → Step (wordWith d) (now (text .entry)) at r) ⌝ }
 {
     let u = unit_at(text, at);
-    if is_latin(unit_code(u)) {
+    if is_common_letter(unit_code(u)) {
         unit_len(u)
     } else {
         0
@@ -1178,9 +1185,13 @@ fn read_word(text: &[u8], at: usize, dollar: bool) -> usize
         if b < 0x80 {
             return j;
         }
-        let n = latin_len(text, j);
+        let n = common_len(text, j);
         if n == 0 {
-            return read_wide_word(text, j, dollar);
+            // Called at two places, it isn't inlined, and its tables stay out of this frame.
+            if dollar {
+                return read_wide_word(text, j, true);
+            }
+            return read_wide_word(text, j, false);
         }
         j += n;
     }
