@@ -1201,5 +1201,8 @@ fn read_word(text: &[u8], at: usize, dollar: bool) -> usize
 fn read_bare_word(text: &[u8], at: usize) -> usize
     ensures { λ r. ⌜ r ≡ at + run wordCharacter (chars (drop at (now (text .entry)))) ⌝ }
 {
+    if at < text.len() {
+        return read_word(text, skip_words(text, at), false);
+    }
     read_word(text, at, false)
 }
