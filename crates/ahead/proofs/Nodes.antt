@@ -6,7 +6,7 @@ use native.Mathlib.Numerals.{add-one}
 use native.Mathlib.Decide.{decLt}
 use mathlib.Core.Path.{_≡_, refl, sym, ap, _∙_}
 use mathlib.Core.Logic.{⊎-elim}
-use mathlib.Core.List.{List, _∷_}
+use mathlib.Core.List.{List, [], _∷_}
 use mathlib.Core.Bool.{Bool, true, false, cond, _||_}
 use lib.Dec.{eqb}
 use lib.ListN.{length, getD, drop, set, drop-of-length-le, length-set}
@@ -34,23 +34,37 @@ module _ (tree s : List ℕ) (node i : ℕ) where
   cut : i < length s → drop i s ≡ getD s i 0 ∷ drop (i + 1) s
   cut h = drop-cons s i 0 h ∙ ap (λ (m : ℕ). getD s i 0 ∷ drop m s) (sym (add-one i))
 
-  pub node-tag : tagByte (getD s i 0) ≡ true → nodeFrom tree node (drop i s) ≡ nodeFrom tree (getD tree (edgeOf node (getD s i 0)) 0) (drop (i + 1) s)
+  pub node-tag : (node ≡ 0 → ⊥) → tagByte (getD s i 0) ≡ true → nodeFrom tree node (drop i s) ≡ nodeFrom tree (getD tree (edgeOf node (getD s i 0)) 0) (drop (i + 1) s)
   unfolding nodeFrom
-  node-tag t =
+  node-tag z t =
       let r = tag-range (getD s i 0) t in
-      ap (nodeFrom tree node) (cut (within-text s i (omega arith))) ∙ rw (t, nodeFrom)
+      ap (nodeFrom tree node) (cut (within-text s i (omega arith))) ∙ rw (ne-eqb node 0 z, t, nodeFrom)
 
-  pub node-dollar : getD s i 0 ≡ dollar → nodeFrom tree node (drop i s) ≡ node
+  pub node-dollar : (node ≡ 0 → ⊥) → getD s i 0 ≡ dollar → nodeFrom tree node (drop i s) ≡ node
   unfolding nodeFrom
-  node-dollar d = ap (nodeFrom tree node) (cut (within-text s i (omega arith))) ∙ rw d
+  node-dollar z d = ap (nodeFrom tree node) (cut (within-text s i (omega arith)) ∙ ap (λ (b : ℕ). b ∷ drop (i + 1) s) d) ∙ rw (ne-eqb node 0 z, nodeFrom)
 
   pub node-none : tagByte (getD s i 0) ≡ false → (getD s i 0 ≡ dollar → ⊥) → nodeFrom tree node (drop i s) ≡ noNode
   unfolding nodeFrom
   node-none t d = go (decLt i (length s))
     where
+      by : (b : Bool) → eqb node 0 ≡ b → nodeFrom tree node (getD s i 0 ∷ drop (i + 1) s) ≡ noNode
+      by true z = rw (z, nodeFrom)
+      by false z = rw (z, t, nodeFrom) (ap (λ (b : Bool). cond b node noNode) (ne-eqb _ _ d))
+
       go : Dec (i < length s) → nodeFrom tree node (drop i s) ≡ noNode
-      go (yes h) = ap (nodeFrom tree node) (cut h) ∙ rw (t, nodeFrom) (ap (λ (b : Bool). cond b node noNode) (ne-eqb _ _ d))
+      go (yes h) = ap (nodeFrom tree node) (cut h) ∙ by (eqb node 0) refl
       go (no h) = let l : length s ≤ i = omega arith in ap (nodeFrom tree node) (drop-of-length-le s l)
+
+-- from node 0
+pub node-missing : (tree s : List ℕ) → nodeFrom tree 0 s ≡ noNode
+unfolding nodeFrom
+node-missing tree [] = refl
+node-missing tree (b ∷ s) = refl
+
+unless-missing : (tree u v : List ℕ) (node : ℕ) → ((node ≡ 0 → ⊥) → nodeFrom tree node u ≡ nodeFrom tree node v) → nodeFrom tree node u ≡ nodeFrom tree node v
+unless-missing tree u v zero f = node-missing tree u ∙ sym (node-missing tree v)
+unless-missing tree u v (suc m) f = f (λ z. omega arith)
 
 -- Two places with the same tag have the same node.
 pub node-same : (tree s : List ℕ) (n node p q : ℕ) → ((k : ℕ) → k < n → tagByte (getD s (p + k) 0) ≡ true) → ((k : ℕ) → k ≤ n → getD s (q + k) 0 ≡ getD s (p + k) 0) → getD s (p + n) 0 ≡ dollar
@@ -58,17 +72,18 @@ pub node-same : (tree s : List ℕ) (n node p q : ℕ) → ((k : ℕ) → k < n 
 node-same tree s zero node p q t e d =
     let a : getD s p 0 ≡ dollar = rw (add-zero p) at d in
     let b : getD s q 0 ≡ getD s p 0 = rw (add-zero q, add-zero p) at (e 0 (omega arith)) in
-    node-dollar tree s node q (b ∙ a) ∙ sym (node-dollar tree s node p a)
+    unless-missing tree (drop q s) (drop p s) node (λ z. node-dollar tree s node q z (b ∙ a) ∙ sym (node-dollar tree s node p z a))
 node-same tree s (suc n) node p q t e d =
     let a : tagByte (getD s p 0) ≡ true = rw (add-zero p) at (t 0 (omega arith)) in
     let b : getD s q 0 ≡ getD s p 0 = rw (add-zero q, add-zero p) at (e 0 (omega arith)) in
-    node-tag tree s node q (ap tagByte b ∙ a)
+    unless-missing tree (drop q s) (drop p s) node (λ z.
+    node-tag tree s node q z (ap tagByte b ∙ a)
     ∙ ap (λ (c : ℕ). nodeFrom tree (getD tree (edgeOf node c) 0) (drop (q + 1) s)) b
     ∙ node-same tree s n (getD tree (edgeOf node (getD s p 0)) 0) (p + 1) (q + 1)
     (λ k h. let x : p + 1 + k ≡ p + (k + 1) = omega arith in rw x (t (k + 1) (omega arith)))
     (λ k h. let x : p + 1 + k ≡ p + (k + 1) = omega arith in let y : q + 1 + k ≡ q + (k + 1) = omega arith in rw (x, y) (e (k + 1) (omega arith)))
     (let x : p + 1 + n ≡ p + suc n = omega arith in rw x d)
-    ∙ sym (node-tag tree s node p a)
+    ∙ sym (node-tag tree s node p z a))
 
 module _ (s : List ℕ) (from : ℕ) (tree last : List ℕ) (j : ℕ) where
   pub seen-none : j ≤ from → Seen s from tree last j

@@ -20,10 +20,14 @@ noNode = 65536
 abbrev pub edgeOf : ℕ → ℕ → ℕ
 edgeOf node b = node % 4096 * 75 + (b - 48)
 
--- The node that a tag and its `$` lead to, from a node on.
+-- The node that a tag and its `$` lead to, from a node on. Node 0 leads nowhere.
 unfoldable pub nodeFrom : List ℕ → ℕ → List ℕ → ℕ
 nodeFrom tree node [] = noNode
-nodeFrom tree node (b ∷ s) = elim (tagByte b) [ true ↦ nodeFrom tree (getD tree (edgeOf node b) 0) s | false ↦ cond (eqb b dollar) node noNode ]
+nodeFrom tree node (b ∷ s) =
+    elim (eqb node 0) [
+      | true ↦ noNode
+      | false ↦ elim (tagByte b) [ true ↦ nodeFrom tree (getD tree (edgeOf node b) 0) s | false ↦ cond (eqb b dollar) node noNode ]
+    ]
 
 -- The node of the `$` at an offset.
 abbrev pub nodeAt : List ℕ → List ℕ → ℕ → ℕ

@@ -7,6 +7,7 @@
 use lexer::syntax_kind::SyntaxKind;
 use lexer::tokenizer;
 use lexer::tokenizer::is_tag_byte;
+use lexer::tokenizer::tag_end;
 use utf8::byte_at;
 ghost use mathlib.Core.Path.{_≡_};
 ghost use mathlib.Core.Bool.{true};
@@ -53,6 +54,12 @@ fn key_at(text: &[u8], at: usize, tree: &[u16]) -> Key
         }
         node = tree[edge(node, b)] as usize;
         j += 1;
+        if node == 0 {
+            return Key {
+                node: 65536,
+                end: tag_end(text, j),
+            };
+        }
     }
     Key {
         node: 65536,

@@ -1008,11 +1008,11 @@ pub fn is_tag_byte(b: u8) -> bool
 }
 
 // Where the tag bytes from `at` on end.
-fn tag_end(text: &[u8], at: usize) -> usize
+pub fn tag_end(text: &[u8], at: usize) -> usize
     requires { ⌜ at ≤ length (now text) ⌝ }
     ensures { λ r. ⌜ TagEnd (now (text .entry)) at r ⌝ }
 {
-    let mut i = at;
+    let mut i = skip_words(text, at);
     while i < text.len() {
         if !is_tag_byte(text[i]) {
             return i;

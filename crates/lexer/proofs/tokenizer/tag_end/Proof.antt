@@ -9,6 +9,7 @@ use borrow.Author.Count.{below-more}
 use borrow.Author.Tests.{not-true, not-false}
 use lib.ListN.{length, getD, List·getD-eq-default}
 use Rattle.rules.specs.Dollars.{tagByte}
+use Rattle.lexer.proofs.Classes.{tag-word}
 use Rattle.lexer.proofs.tokenizer.tag_end.Statement.{statement}
 use Rattle.lexer.proofs.tokenizer.tag_end.Tie as tie
 
@@ -31,7 +32,7 @@ loop-again c =
 returns-2 : tie.Need-returns-2 Inv-loop μ-loop
 returns-2 c =
     let v = c .before .loop .inv in
-    record { from = v .0; upto = v .1; tags = v .2; over = ap tagByte (List·getD-eq-default (now (c .before .before .before .args .text)) 0 (c .loop-test .left)) }
+    record { from = v .0; upto = v .1; tags = v .2; over = ap tagByte (List·getD-eq-default (now (c .before .before .before .before .args .text)) 0 (c .loop-test .left)) }
 
 pub tag-end-spec : {M : Type 1} → statement M
 tag-end-spec =
@@ -39,7 +40,8 @@ tag-end-spec =
     (tie.spec
     Inv-loop
     μ-loop
-    (λ c. (omega arith, omega arith, λ k u l. absurd (omega arith)))
+    (λ c κs. search needs)
+    (λ c. let r = c .skip-words .ensures in (r .from, r .upto, λ k u l. sym (tag-word (getD (now (c .before .before .args .text)) k 0)) ∙ r .pass k l u))
     (λ c. omega arith)
     (λ c κs. search needs)
     returns
