@@ -3,6 +3,7 @@ use Prim.Native.Nat.{ℕ, _+_, _-_, _*_, _≤_, _<_}
 use native.Mathlib.Omega.{arith}
 use mathlib.Core.Path.{_≡_, refl, sym, ap, _∙_}
 use mathlib.Core.List.{List}
+use native.Mathlib.Decide.{decLt}
 use mathlib.Core.Bool.{false, not}
 use mathlib.Core.Option.{Option, some, none}
 use lib.ListN.{length, getD, drop}
@@ -12,6 +13,7 @@ use Rattle.rules.specs.Utf8.{chars}
 use Rattle.rules.specs.Characters.{dollar}
 use Rattle.rules.specs.Kinds.{HereDoc, DollarSign}
 use Rattle.rules.specs.Dollars.{begins, find, hereDoc, dollarLexeme}
+use Rattle.rules.proofs.Tests.{clash}
 use Rattle.rules.proofs.Decoding.{within-text}
 use Rattle.rules.proofs.Dollars.{here-none}
 use Rattle.rules.proofs.HereDocs.{tags-none, opening, opening-first, opening-plain, opening-size, here-by, later, find-pass, no-dollar}
@@ -87,3 +89,12 @@ module _ (s : List ℕ) (start e : ℕ) (t : TagEnd s (start + 1) e) where
               let h = by (some m) f .1 in
               let u = t .from in
               ap (λ (n : ℕ). record { kind = HereDoc; end = n }) (omega arith) ∙ sym (ap (λ (o : Option ℕ). endsAt start (dollarLexeme o)) (by (some m) f .0))
+
+-- a tag ends at one place
+pub one-end : {s : List ℕ} {at d e : ℕ} → TagEnd s at d → TagEnd s at e → d ≡ e
+one-end {s} {at} {d} {e} t u = go (decLt d e) (decLt e d)
+  where
+    go : Dec (d < e) → Dec (e < d) → d ≡ e
+    go (yes l) y = clash (u .tags d l (t .from)) (t .over)
+    go (no k) (yes l) = clash (t .tags e l (u .from)) (u .over)
+    go (no k) (no l) = omega arith

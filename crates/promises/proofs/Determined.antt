@@ -10,6 +10,7 @@ use Rattle.utf8.proofs as utf8
 use Rattle.classes.proofs as classes
 use Rattle.probe.proofs as probe
 use Rattle.lexer.proofs.tokenizer as tokenizer
+use Rattle.lexer.proofs.HereDocs.{one-end}
 use Rattle.lists.proofs.listing as listing
 use Rattle.lists.proofs.packed as packed
 use Rattle.lists.proofs.picks as picks
@@ -107,6 +108,9 @@ next-token κs a r s u v p q = (same p q, refl)
 
 pub is-tag-byte : Determined tokenizer.is_tag_byte.ended tokenizer.is_tag_byte.Reads.Learnt
 is-tag-byte κs a r s u v p q = (same p q, refl)
+
+pub tag-end : Determined tokenizer.tag_end.ended tokenizer.tag_end.Reads.Learnt
+tag-end κs a r s u v p q = (one-end p q, refl)
 
 pub step : Determined tokenizer.step.ended tokenizer.step.Reads.Learnt
 step κs a r s u v p q = (same p q, refl)
