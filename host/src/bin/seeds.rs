@@ -1,0 +1,26 @@
+//! Writes texts to begin a fuzz run with, one a file, into a folder: seeds FOLDER BYTES. None is longer than that many bytes.
+use host::{texts, Random};
+
+/// Short tags, all different: of 4,096 bytes of them the library looks ahead.
+fn tags(bytes: usize) -> String {
+    let letter = |i: usize| b"ABCDEFGHIJKLMNOPQRSTUVWXYZabcdefghijklmnopqrstuvwxyz"[i % 52] as char;
+    (0..bytes / 3).flat_map(|i| ['$', letter(i / 52), letter(i)]).collect()
+}
+
+fn main() {
+    let usage = "usage: seeds FOLDER BYTES";
+    let mut words = std::env::args().skip(1);
+    let folder = words.next().expect(usage);
+    let most: usize = words.next().and_then(|n| n.parse().ok()).expect(usage);
+    let mut r = Random(0x9216D5D98979FB1B);
+    for i in 0..600 {
+        let mut text = match i % 60 {
+            0 => texts::dollars(&mut r, most),
+            30 => tags(most / 2 + r.below(most / 2)) + &texts::random(&mut r),
+            _ => texts::random(&mut r),
+        };
+        text.truncate(text.floor_char_boundary(most));
+        let text = if i % 4 == 1 { texts::damaged(&mut r, &text) } else { text.into_bytes() };
+        std::fs::write(format!("{folder}/{i}"), text).expect("a folder to write into");
+    }
+}
