@@ -38,11 +38,12 @@ fn seed(text: &[u8]) -> u64 {
 }
 
 /// Both lists of the whole text, with no room, a byte too little, just enough, and a token for each byte.
-fn whole_lists(text: &[u8], lists: &[Vec<Triple>; 2]) {
-    for (mode, tokens) in (0..).zip(lists) {
+fn whole_lists(text: &[u8], full: &[Triple]) {
+    let lean = std::str::from_utf8(text).map_or(vec![], oracle::lean);
+    for (mode, tokens) in [(0, full), (1, &lean)] {
         let enough = 12 * tokens.len();
         let calls = [0, enough.saturating_sub(1), enough, 12 * text.len()].map(|lent| Call::list(Op::List, mode, 0, text, lent));
-        compare(&calls, calls.iter().map(|call| reading::listing(call, || tokens.clone())));
+        compare(&calls, calls.iter().map(|call| reading::listing(call, || tokens.to_vec())));
     }
     let no_mode = Call::list(Op::List, 2, 0, text, 12 * text.len());
     let want = reading::listing(&no_mode, || unreachable!());
@@ -64,9 +65,10 @@ fn lists_up_to(text: &[u8], full: &[Triple], r: &mut Random) {
 }
 
 /// Steps from some edges against the Rust, and from some offsets against the second reading.
-fn steps(text: &[u8], edges: &[Triple], r: &mut Random) {
+fn steps(text: &[u8], r: &mut Random) {
+    let edges = std::str::from_utf8(text).map_or(vec![], oracle::steps);
     for _ in 0..edges.len().min(40) {
-        let (kind, start, end) = r.one_of(edges);
+        let (kind, start, end) = r.one_of(&edges);
         let answer = Answer { answer: reading::answer(0, kind, end as usize), memory: vec![] };
         compare(&[Call::read(Op::Step, start as u64, text)], [answer]);
     }
@@ -100,16 +102,25 @@ fn parts(text: &[u8], r: &mut Random) {
     }
 }
 
+/// All of these, or of a long text one, since the Rust takes the square of its length where it has many dollar signs.
 fn try_text(text: &[u8]) {
     let mut r = Random(seed(text));
-    let valid = std::str::from_utf8(text);
-    let lists = valid.map_or([vec![], vec![]], |text| [oracle::full(text), oracle::lean(text)]);
-    let edges = valid.map_or(vec![], oracle::steps);
-    whole_lists(text, &lists);
-    lists_up_to(text, &lists[0], &mut r);
-    steps(text, &edges, &mut r);
-    masks(text, &lists[0]);
-    parts(text, &mut r);
+    let full = std::str::from_utf8(text).map_or(vec![], oracle::full);
+    let only = (text.len() > 1000).then_some(r.below(4));
+    let tried = |part| only.is_none_or(|only| only == part);
+    if tried(0) {
+        whole_lists(text, &full);
+    }
+    if tried(1) {
+        lists_up_to(text, &full, &mut r);
+    }
+    if tried(2) {
+        steps(text, &mut r);
+        parts(text, &mut r);
+    }
+    if tried(3) {
+        masks(text, &full);
+    }
 }
 
 /// What libFuzzer calls. A difference panics, which ends the run.
