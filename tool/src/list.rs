@@ -1,0 +1,23 @@
+//! What `list` prints.
+use crate::unseen::on_a_line;
+use giehtamun::{Place, Token, place};
+
+/// The place after a part that begins at a place. From token to token, so that a list takes no more than its text's length.
+fn after(start: Place, part: &[u8]) -> Place {
+    let by = place(part, part.len()).expect("a part of a text that is not too long");
+    Place { line: start.line + by.line, column: by.column + if by.line == 0 { start.column } else { 0 } }
+}
+
+pub fn lines(text: &str, tokens: Vec<Token>) -> String {
+    let mut out = String::new();
+    let (mut at, mut here) = (0, Place::default());
+    for token in tokens {
+        here = after(here, &text.as_bytes()[at..token.start as usize]);
+        at = token.start as usize;
+        let bytes = format!("{}..{}", token.start, token.end);
+        let place = format!("{}:{}", here.line + 1, here.column + 1);
+        let quoted = on_a_line(&text[token.range()]);
+        out += &format!("{:<20} {bytes:<11} {place:<7} \"{quoted}\"\n", token.kind);
+    }
+    out
+}

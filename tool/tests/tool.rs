@@ -1,0 +1,144 @@
+//! The tool as someone with a file uses it: what it prints, where, and with which status.
+use std::fs::File;
+use std::io::{Read, Write};
+use std::process::{Command, Stdio};
+
+/// What a run printed, what it said on standard error, and its status.
+type Ran = (Vec<u8>, String, Option<i32>);
+
+fn tool(words: &[&str]) -> Command {
+    let mut command = Command::new(env!("CARGO_BIN_EXE_giehtamun"));
+    command.args(words).stdin(Stdio::piped()).stdout(Stdio::piped()).stderr(Stdio::piped());
+    command
+}
+
+/// A run with a text on standard input.
+fn run(words: &[&str], text: &[u8]) -> Ran {
+    let mut child = tool(words).spawn().unwrap();
+    let (mut input, text) = (child.stdin.take().unwrap(), text.to_vec());
+    // A tool that takes no more than it reads leaves the rest.
+    let writer = std::thread::spawn(move || drop(input.write_all(&text)));
+    let out = child.wait_with_output().unwrap();
+    writer.join().unwrap();
+    (out.stdout, String::from_utf8(out.stderr).unwrap(), out.status.code())
+}
+
+/// What a run prints that must go well.
+fn prints(words: &[&str], text: &[u8]) -> String {
+    let (out, said, status) = run(words, text);
+    assert_eq!((said.as_str(), status), ("", Some(0)), "{words:?}, {}", text.escape_ascii());
+    String::from_utf8(out).unwrap()
+}
+
+fn refuses(words: &[&str], text: &[u8], says: &str, status: i32) {
+    assert_eq!(run(words, text), (vec![], format!("giehtamun: {says}\n"), Some(status)), "{words:?}");
+}
+
+/// Document 01's example, with the names and places that document 01 has for kinds and offsets.
+#[test]
+fn lists_document_01s_example() {
+    let lines = "\
+BareWord             0..1        1:1     \"x\"
+Dot                  1..2        1:2     \".\"
+Number               2..3        1:3     \"1\"
+Whitespace           3..4        1:4     \" \"
+LessOrEquals         4..6        1:5     \"<=\"
+StringToken          6..10       1:7     \"'é'\"
+";
+    assert_eq!(prints(&["list", "-"], "x.1 <='é'".as_bytes()), lines);
+    assert_eq!(prints(&["list", "-"], b""), "");
+}
+
+#[test]
+fn lists_places_over_lines_and_without_what_is_lean() {
+    let text = "a /*c\nd*/ b\n\n  é '\n' e -- f".as_bytes();
+    let fields = |words: &[&str]| -> Vec<String> {
+        prints(words, text).lines().map(|line| line.split_whitespace().take(3).collect::<Vec<_>>().join(" ")).collect()
+    };
+    let lean = ["BareWord 0..1 1:1", "BareWord 10..11 2:5", "ErrorToken 15..17 4:3", "StringToken 18..21 4:6", "BareWord 22..23 5:3"];
+    assert_eq!(fields(&["list", "--lean", "-"]), lean);
+    assert_eq!(fields(&["list", "-", "--lean"]), lean);
+    let full = fields(&["list", "-"]);
+    assert_eq!(full.len(), 13);
+    assert_eq!(full[2], "Comment 2..9 1:3");
+    assert_eq!(full[12], "Comment 24..28 5:5");
+}
+
+/// Each line of a list is one line, whatever the text holds.
+#[test]
+fn lists_what_is_not_seen() {
+    let text = "'\n\t\r\0\x1b\u{7F}\u{85}\u{200B}\u{200F}\u{2028}\u{202E}\u{2069}\u{FEFF}\"\\\\\u{200D}ב\u{5B0}'";
+    let shown = r#"'\n\t\r\0\u{1b}\u{7f}\u{85}\u{200b}\u{200f}\u{2028}\u{202e}\u{2069}\u{feff}\"\\\\"#;
+    let line = format!("StringToken          0..{}       1:1     \"{shown}\u{200D}ב\u{5B0}'\"\n", text.len());
+    assert_eq!(prints(&["list", "-"], text.as_bytes()), line);
+}
+
+#[test]
+fn masks_document_01s_case() {
+    assert_eq!(prints(&["mask", "-"], b"$xxx$ a $$abc$$"), "$xxx$ a $$###$$");
+}
+
+#[test]
+fn reads_files() {
+    let file = format!("{}/a file's name", env!("CARGO_TARGET_TMPDIR"));
+    std::fs::write(&file, "a 'b'\n").unwrap();
+    assert_eq!(prints(&["mask", &file], b"not read"), "a '#'\n");
+    assert_eq!(prints(&["list", &file], b""), prints(&["list", "-"], b"a 'b'\n"));
+    assert!(prints(&["show", "--html", &file], b"").contains("a file&#39;s name</title>"));
+}
+
+#[test]
+fn the_size_limit() {
+    let text = [b'('; 1_000_001];
+    let all = &text[1..];
+    let list = prints(&["list", "-"], all);
+    assert_eq!(list.lines().count(), 1_000_000);
+    assert_eq!(list.lines().last(), Some("OpeningRoundBracket  999999..1000000 1:1000000 \"(\""));
+    assert_eq!(prints(&["mask", "-"], all).as_bytes(), all);
+    assert_eq!(prints(&["show", "--html", "-"], all).matches("<span").count(), 1_000_000);
+    for words in [&["list", "-"][..], &["list", "--lean", "-"], &["mask", "-"], &["show", "-"], &["show", "--html", "-"]] {
+        refuses(words, &text, "standard input: longer than 1000000 bytes", 1);
+    }
+}
+
+#[test]
+fn refusals() {
+    for words in [&["list", "-"][..], &["mask", "-"], &["show", "-"], &["show", "--html", "-"]] {
+        refuses(words, b"a\n\xD7\xA9 b\xC0\x80", "standard input: not UTF-8 at byte 6, place 2:5", 1);
+    }
+    refuses(&["list", "no/such"], b"", "no/such: No such file or directory (os error 2)", 1);
+    refuses(&["list", "no\nsuch"], b"", "no\\nsuch: No such file or directory (os error 2)", 1);
+    refuses(&["mask", env!("CARGO_MANIFEST_DIR")], b"", concat!(env!("CARGO_MANIFEST_DIR"), ": Is a directory (os error 21)"), 1);
+    let wrong: [&[&str]; 8] = [
+        &[],
+        &["list"],
+        &["lists", "-"],
+        &["list", "-", "-"],
+        &["mask", "--lean", "-"],
+        &["show", "--lean", "-"],
+        &["--html"],
+        &["list", "--x", "-"],
+    ];
+    for words in wrong {
+        refuses(words, b"", "no such command: ./giehtamun --help says which there are", 2);
+    }
+}
+
+#[test]
+fn a_reader_that_goes_away() {
+    let mut child = tool(&["list", "-"]).spawn().unwrap();
+    child.stdin.take().unwrap().write_all(&[b'('; 500_000]).unwrap();
+    let mut first = [0; 19];
+    child.stdout.take().unwrap().read_exact(&mut first).unwrap();
+    let out = child.wait_with_output().unwrap();
+    assert_eq!((&first, out.stderr, out.status.code()), (b"OpeningRoundBracket", vec![], Some(0)));
+}
+
+#[test]
+fn a_full_disk() {
+    let mut child = tool(&["mask", "-"]).stdout(File::create("/dev/full").unwrap()).spawn().unwrap();
+    child.stdin.take().unwrap().write_all(b"a").unwrap();
+    let out = child.wait_with_output().unwrap();
+    assert_eq!(String::from_utf8_lossy(&out.stderr), "giehtamun: standard output: No space left on device (os error 28)\n");
+    assert_eq!(out.status.code(), Some(1));
+}
