@@ -1,13 +1,15 @@
 //! Document 01's bench sheet, and the reasons to refuse, through the safe functions.
 use giehtamun::*;
 
-/// Kind, start and end of each token.
-fn triples(tokens: impl IntoIterator<Item = Token>) -> Vec<(u32, u32, u32)> {
+/// Kind, start and end of a token.
+type Triple = (u32, u32, u32);
+
+fn triples(tokens: impl IntoIterator<Item = Token>) -> Vec<Triple> {
     tokens.into_iter().map(|token| (token.kind as u32, token.start, token.end)).collect()
 }
 
 #[rustfmt::skip]
-const FULL: [(&str, &[(u32, u32, u32)]); 29] = [
+const FULL: [(&str, &[Triple]); 29] = [
     ("", &[]),
     ("1e", &[(44, 0, 2)]),
     ("1name", &[(4, 0, 5)]),
