@@ -13,7 +13,7 @@ fn colour(kind: Kind) -> u8 {
         Kind::HereDoc => 33,
         Kind::QuotedIdentifier => 35,
         kind if kind > Kind::EndOfStream => 31,
-        _ => 37,
+        _ => 39,
     }
 }
 
