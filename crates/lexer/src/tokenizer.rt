@@ -101,6 +101,7 @@ pub fn next_token(text: &[u8], start: usize) -> Lexed
     if text.len() - start < 3 {
         return read_rest(&text[0..], start);
     }
+    // The answers are taken apart, since what is told in short then never goes through memory.
     let l = read_short(&text[0..], start);
     if l.kind != SyntaxKind::NoToken {
         return Lexed {
@@ -272,6 +273,7 @@ fn number_to(b: u8, start: usize, end: usize) -> Lexed
     untold(start)
 }
 
+// The bytes of ASCII from `at` on that a word has, but of the last seven of the text perhaps none.
 fn skip_words(text: &[u8], at: usize) -> usize
     requires { ⌜ at ≤ length (now text) ⌝ }
     ensures { λ r. ⌜ Skips asciiWord (now (text .entry)) at r ⌝ }
@@ -289,6 +291,7 @@ fn skip_words(text: &[u8], at: usize) -> usize
     runs::skip(text, at, false, class)
 }
 
+// Digits, likewise.
 fn skip_digits(text: &[u8], at: usize) -> usize
     requires { ⌜ at ≤ length (now text) ⌝ }
     ensures { λ r. ⌜ Skips digit (now (text .entry)) at r ⌝ }
@@ -306,7 +309,7 @@ fn skip_digits(text: &[u8], at: usize) -> usize
     runs::skip(text, at, false, class)
 }
 
-// A token at a byte.
+// The token at `start`, by its first character. Words and white space are tried first, since most tokens are these.
 fn read_rest(text: &[u8], start: usize) -> Lexed
     requires { ⌜ start < length (now text) ⌝ }
     ensures { λ r. ⌜ r ≡ endsAt start (lexeme (afterDotAt (now (text .entry)) start) (drop start (now (text .entry)))) ⌝ }
