@@ -929,10 +929,6 @@ fn read_string(text: &[u8], at: usize, quote: u8, success_type: u32, error_type:
 {
     let mut i = at;
     while i < text.len() {
-        i = skip_to_either(text, i, quote, b'\\');
-        if i == text.len() {
-            break;
-        }
         let b = text[i];
         if b == b'\\' {
             if i + 1 == text.len() {
@@ -954,7 +950,7 @@ fn read_string(text: &[u8], at: usize, quote: u8, success_type: u32, error_type:
             i += 2;
             continue;
         }
-        i += 1;
+        i = skip_to_either(text, i + 1, quote, b'\\');
     }
     Lexed {
         kind: error_type,
