@@ -1,10 +1,10 @@
 //! Writes texts to begin a fuzz run with, one a file, into a folder: seeds FOLDER BYTES. None is longer than that many bytes.
 use host::{texts, Random};
 
-/// Short tags, all different: of 4,096 bytes of them the library looks ahead.
+/// Short tags, all different: in 4,096 bytes of them the library looks ahead, and 16,384 are too many for the tree with which it does.
 fn tags(bytes: usize) -> String {
     let letter = |i: usize| b"ABCDEFGHIJKLMNOPQRSTUVWXYZabcdefghijklmnopqrstuvwxyz"[i % 52] as char;
-    (0..bytes / 3).flat_map(|i| ['$', letter(i / 52), letter(i)]).collect()
+    (0..bytes / 4).flat_map(|i| ['$', letter(i / 2704), letter(i / 52), letter(i)]).collect()
 }
 
 fn main() {
