@@ -923,7 +923,7 @@ fn number_word(text: &[u8], start: usize, at: usize) -> Lexed
 
 // A string or an identifier, from after its opening quote, by bytes: no byte of ASCII lies inside a character. Of a character that is
 // taken, the bytes after the first pass as any others do.
-fn read_string(text: &[u8], at: usize, quote: u8, success_type: u32, error_type: u32) -> Lexed
+pub fn read_string(text: &[u8], at: usize, quote: u8, success_type: u32, error_type: u32) -> Lexed
     requires { ⌜ (0 < quote) × (quote < 0x80) × (quote ≡ backslash → ⊥) ⌝ }
     ensures { λ r. ⌜ r ≡ endsAt at (enclosed 0 (quotedBody quote false (chars (drop at (now (text .entry))))) «success_type» «error_type») ⌝ }
 {

@@ -2,7 +2,11 @@
 use crate::packed::put_token;
 use ahead::PATIENCE;
 use ahead::look;
-use ahead::next_token;
+use edges::Next;
+use edges::find;
+use edges::leads;
+use edges::plain;
+use edges::read;
 use lexer::syntax_kind::SyntaxKind;
 use rules::answer::Answer;
 use rules::max_query_size;
@@ -94,15 +98,32 @@ pub fn count(text: &[u8], choice: Choice) -> usize
     requires { ⌜ (length (now text) ≤ maxQuerySize) × (choice .position ≤ length (now text)) ⌝ }
     ensures { λ r. ⌜ r ≡ length (chosen choice (now (text .entry)) 0) ⌝ }
 {
+    let leads = leads();
     let mut words = [0u64; 256];
+    let mut base = 0;
+    let mut bits = 0;
     let mut until = 0;
     let mut vain = 0;
     let mut n = 0;
     let mut cursor = 0;
     while cursor < choice.position {
-        let token = next_token(text, cursor, until, vain, &words);
+        if bits == 0 {
+            base = cursor;
+            bits = find(text, cursor);
+        }
+        let mut token = plain(&leads, text, cursor, vain, base, bits);
+        if token.kind == SyntaxKind::NoToken {
+            let other = read(text, cursor, until, vain, &words, base, bits);
+            token = Next {
+                kind: other.kind,
+                end: other.end,
+                vain: other.vain,
+                bits: other.bits,
+            };
+        }
         cursor = token.end;
         vain = token.vain;
+        bits = token.bits;
         if vain >= PATIENCE {
             until = look(text, cursor, &mut words);
             vain = 0;
@@ -131,16 +152,33 @@ fn fill(text: &[u8], choice: Choice, list: &mut [u8]) -> usize
     requires { ⌜ (length (now text) ≤ maxQuerySize) × (choice .position ≤ length (now text)) × (length (chosen choice (now text) 0) * tokenBytes ≤ length (now list)) ⌝ }
     ensures { λ r. ⌜ (let ts = chosen choice (now (text .entry)) 0 in (r ≡ length ts) × (now (list .exit) ≡ filled (pack ts) (now (list .entry)))) ⌝ }
 {
+    let leads = leads();
     let mut words = [0u64; 256];
+    let mut base = 0;
+    let mut bits = 0;
     let mut until = 0;
     let mut vain = 0;
     let mut at = 0;
     let mut cursor = 0;
     while cursor < choice.position {
         let start = cursor;
-        let token = next_token(text, start, until, vain, &words);
+        if bits == 0 {
+            base = start;
+            bits = find(text, start);
+        }
+        let mut token = plain(&leads, text, start, vain, base, bits);
+        if token.kind == SyntaxKind::NoToken {
+            let other = read(text, start, until, vain, &words, base, bits);
+            token = Next {
+                kind: other.kind,
+                end: other.end,
+                vain: other.vain,
+                bits: other.bits,
+            };
+        }
         cursor = token.end;
         vain = token.vain;
+        bits = token.bits;
         if vain >= PATIENCE {
             until = look(text, cursor, &mut words);
             vain = 0;

@@ -2,7 +2,11 @@
 use crate::parts::hides;
 use ahead::PATIENCE;
 use ahead::look;
-use ahead::next_token;
+use edges::Next;
+use edges::find;
+use edges::leads;
+use edges::plain;
+use edges::read;
 use lexer::syntax_kind::SyntaxKind;
 use rules::answer::Answer;
 use rules::mask_byte;
@@ -116,15 +120,32 @@ fn mask_tokens(text: &[u8], copy: &mut [u8])
     requires { ⌜ (length (now text) ≤ maxQuerySize) × (now copy ≡ filled (now text) (now copy)) ⌝ }
     ensures { λ r. ⌜ now (copy .exit) ≡ filled (masked (now (text .entry))) (now (copy .entry)) ⌝ }
 {
+    let leads = leads();
     let mut words = [0u64; 256];
+    let mut base = 0;
+    let mut bits = 0;
     let mut until = 0;
     let mut vain = 0;
     let mut cursor = 0;
     while cursor < text.len() {
         let start = cursor;
-        let token = next_token(text, start, until, vain, &words);
+        if bits == 0 {
+            base = start;
+            bits = find(text, start);
+        }
+        let mut token = plain(&leads, text, start, vain, base, bits);
+        if token.kind == SyntaxKind::NoToken {
+            let other = read(text, start, until, vain, &words, base, bits);
+            token = Next {
+                kind: other.kind,
+                end: other.end,
+                vain: other.vain,
+                bits: other.bits,
+            };
+        }
         cursor = token.end;
         vain = token.vain;
+        bits = token.bits;
         if vain >= PATIENCE {
             until = look(text, cursor, &mut words);
             vain = 0;

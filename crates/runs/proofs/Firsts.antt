@@ -82,12 +82,12 @@ module _ (out : Bool) (es : List ℕ) (a : Ascii es) (s : List ℕ) (fits : (k :
         full = λ h. absurd (omega arith);
       }
 
-  lane : (n i : ℕ) → marksAt (suc n) i ≡ marksAt n (i + 1) * 256 + cond (p i) 0 0x80
+  pub lane : (n i : ℕ) → marksAt (suc n) i ≡ marksAt n (i + 1) * 256 + cond (p i) 0 0x80
   unfolding packed
   lane n i =
       marks-lane es a out n (packed n s (i + 1)) (getD s i 0) (fits i) ∙ ap (λ (b : ℕ). marksAt n (i + 1) * 256 + b) (mark-is es a (getD s i 0) (fits i) out)
 
-  none : (i : ℕ) → marksAt 0 i ≡ 0
+  pub none : (i : ℕ) → marksAt 0 i ≡ 0
   unfolding ones
   none i = ap (λ (n : ℕ). bitXor n (cond out 0 0)) (and-zero-r (bitOr (bitXor (raised 0 es (bitAnd (packed 0 s i) 0)) 0) (packed 0 s i))) ∙ go out
     where

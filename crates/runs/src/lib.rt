@@ -33,7 +33,7 @@ fn four(text: &[u8], i: usize) -> u64
     two(text, i) + two(text, i + 2) * 0x1_0000
 }
 
-fn eight(text: &[u8], i: usize) -> u64
+pub fn eight(text: &[u8], i: usize) -> u64
     requires { ⌜ i + 8 ≤ length (now text) ⌝ }
     ensures { λ r. ⌜ r ≡ packed 8 (now (text .entry)) i ⌝ }
 {
@@ -49,7 +49,7 @@ fn raised(y: u64, edge: u8) -> u64
 }
 
 // The high bit of each byte that is not in the class.
-fn others(x: u64, k: Class) -> u64
+pub fn others(x: u64, k: Class) -> u64
     requires { ⌜ Ascii (edges k) ⌝ }
     ensures { λ r. ⌜ r ≡ others 8 (edges k) x ⌝ }
 {

@@ -1,0 +1,148 @@
+-- What the bytes tell: computed at all of them. Assumes nothing.
+use Prim.Native.Nat.{ℕ, zero, suc, _+_, _*_, _/_, _%_, _^_, _≤_, _<_}
+use native.Mathlib.Omega.{arith}
+use native.Mathlib.Nat.{add-zero}
+use mathlib.Core.Path.{_≡_, refl, sym, ap, _∙_, subst}
+use mathlib.Core.List.{List, [], _∷_}
+use mathlib.Core.Bool.{Bool, true, false, not, cond, _&&_, _||_}
+use mathlib.Core.Logic.{_⊎_, inl, inr}
+use lib.ListN.{getD}
+use lib.Dec.{leb, ltb, eqb}
+use borrow.Author.Tests.{not-true, ltb-true, eq-eqb, le-leb}
+use Rattle.rules.specs.Characters.{dot, backslash}
+use Rattle.rules.specs.Kinds.{NoToken, Whitespace, Number, BareWord}
+use Rattle.rules.specs.Operators.{single}
+use Rattle.rules.specs.Words.{startsWord}
+use Rattle.rules.proofs.Tests.{clash, eqb-true, or-cases, and-both}
+use Rattle.rules.proofs.Tables.{agree, agree-at}
+use Rattle.lexer.specs.Leads.{among, leadKind}
+use Rattle.edges.specs.Leads.{seconds, after, minds, lead, told, leadsFrom, leadTable}
+
+from : (n b k : ℕ) → k < n → getD (leadsFrom n b) k 0 ≡ lead (b + k)
+unfolding leadsFrom
+from zero b k l = absurd (omega arith)
+from (suc n) b zero l = ap lead (sym (add-zero b))
+from (suc n) b (suc k) l = from n (b + 1) k (omega arith) ∙ ap lead (omega arith)
+
+pub in-table : (b : ℕ) → b < 256 → getD leadTable b 0 ≡ lead b
+unfolding leadTable
+in-table b l = from 256 0 b l ∙ ap lead (omega arith)
+
+pub lead-small : (b : ℕ) → b < 256 → lead b < 0x2_0000
+unfolding lead minds after leadKind single
+lead-small b l = ltb-true (lead b) 0x2_0000 (agree-at (λ b. ltb (lead b) 0x2_0000) (λ b. true) 256 refl b l)
+
+-- the parts of a number
+parts : (b : ℕ) → b < 256 → (lead b / 4096 ≡ after b) × (lead b % 128 ≡ leadKind b % 128)
+unfolding lead minds after leadKind single
+parts b l =
+    let t = and-both (eqb (lead b / 4096) (after b)) (eqb (lead b % 128) (leadKind b % 128)) (agree-at (λ b. eqb (lead b / 4096) (after b) && eqb (lead b % 128) (leadKind b % 128)) (λ b. true) 256 refl b l) in
+    (eqb-true (t .0), eqb-true (t .1))
+
+-- what a byte after a token is not
+small : (b : ℕ) → b < 256 → after b < 5
+unfolding after
+small b l = ltb-true (after b) 5 (agree-at (λ b. ltb (after b) 5) (λ b. true) 256 refl b l)
+
+implied : (x y : Bool) → (not x || y) ≡ true → x ≡ true → y ≡ true
+implied true y h e = h
+implied false y h e = clash e refl
+
+-- A first byte that minds nothing of a byte of the class c.
+abbrev minded : ℕ → ℕ → Bool
+minded a c = not (eqb (lead a / 128 / 2 ^ c % 2) 0)
+
+module _ (p : ℕ → ℕ → Bool) where
+  abbrev pair : ℕ → Bool
+  pair n = minded (n / 8) (n % 8) || p (n / 8) (n % 8)
+
+  pub unminded : agree pair (λ n. true) 2048 ≡ true → (a c : ℕ) → a < 256 → c < 8 → eqb (lead a / 128 / 2 ^ c % 2) 0 ≡ true → p a c ≡ true
+  unminded f a c l m e =
+      let x : (a * 8 + c) / 8 ≡ a = omega arith in
+      let y : (a * 8 + c) % 8 ≡ c = omega arith in
+      let t = agree-at pair (λ n. true) 2048 f (a * 8 + c) (omega arith) in
+      go (or-cases (minded a c) (p a c) (sym (ap (λ (u : ℕ). minded u ((a * 8 + c) % 8) || p u ((a * 8 + c) % 8)) x ∙ ap (λ (v : ℕ). minded a v || p a v) y) ∙ t))
+    where
+      go : (minded a c ≡ true) ⊎ (p a c ≡ true) → p a c ≡ true
+      go (inl q) = clash e (not-true _ q)
+      go (inr q) = q
+
+-- What is known where nothing is minded: of the first byte, and of the byte after the token.
+module _ (a b : ℕ) (la : a < 256) (lb : b < 256) (t : told (lead a) (lead b) ≡ true) where
+  at-class : eqb (lead a / 128 / 2 ^ after b % 2) 0 ≡ true
+  at-class = sym (ap (λ (c : ℕ). eqb (lead a / 128 / 2 ^ c % 2) 0) (parts b lb .0)) ∙ t
+
+  class-small : after b < 8
+  class-small = let h = small b lb in omega arith
+
+  knows : (p : ℕ → ℕ → Bool) → agree (pair p) (λ n. true) 2048 ≡ true → p a (after b) ≡ true
+  knows p f = unminded p f a (after b) la class-small at-class
+
+  -- a kind that does not mind a class is met at another class
+  module _ (k : ℕ) (c : ℕ) (f : agree (pair (λ a d. not (eqb (leadKind a) k) || not (eqb d c))) (λ n. true) 2048 ≡ true) where
+    not-class : leadKind a ≡ k → eqb (after b) c ≡ false
+    not-class e = not-true _ (implied (eqb (leadKind a) k) (not (eqb (after b) c)) (knows (λ a d. not (eqb (leadKind a) k) || not (eqb d c)) f) (eq-eqb (leadKind a) k e))
+
+  pub some-kind : leadKind a ≡ NoToken → ⊥
+  unfolding lead minds after leadKind single
+  some-kind e = let k = knows (λ a c. ltb 4 c || not (eqb (leadKind a) NoToken)) refl in go (ltb 4 (after b)) refl k
+    where
+      go : (x : Bool) → ltb 4 (after b) ≡ x → (x || not (eqb (leadKind a) NoToken)) ≡ true → ⊥
+      go true q k = let l = ltb-true 4 (after b) q in let h = small b lb in absurd (omega arith)
+      go false q k = clash k (ap (λ (k : ℕ). not (eqb k NoToken)) e)
+
+  pub of-word : leadKind a ≡ BareWord → (eqb (after b) 4 ≡ false) × (eqb (after b) 1 ≡ false)
+  unfolding lead minds after leadKind single
+  of-word e = (not-class BareWord 4 refl e, not-class BareWord 1 refl e)
+
+  pub of-number : leadKind a ≡ Number → (eqb (after b) 4 ≡ false) × (eqb (after b) 1 ≡ false) × (eqb (after b) 2 ≡ false)
+  unfolding lead minds after leadKind single
+  of-number e = (not-class Number 4 refl e, not-class Number 1 refl e, not-class Number 2 refl e)
+
+  pub of-space : leadKind a ≡ Whitespace → eqb (after b) 4 ≡ false
+  unfolding lead minds after leadKind single
+  of-space e = not-class Whitespace 4 refl e
+
+  pub of-longer : 0x80 ≤ leadKind a → (eqb a backslash ≡ false) × (eqb (after b) 3 ≡ false)
+  unfolding lead minds after leadKind single
+  of-longer h =
+      let k = knows (λ a c. ltb 4 c || (not (leb 0x80 (leadKind a)) || (not (eqb a backslash) && not (eqb c 3)))) refl in
+      go (ltb 4 (after b)) refl k
+    where
+      go : (x : Bool) → ltb 4 (after b) ≡ x → (x || (not (leb 0x80 (leadKind a)) || (not (eqb a backslash) && not (eqb (after b) 3)))) ≡ true → (eqb a backslash ≡ false) × (eqb (after b) 3 ≡ false)
+      go true q k = let l = ltb-true 4 (after b) q in let h = small b lb in absurd (omega arith)
+      go false q k =
+          let m = and-both (not (eqb a backslash)) (not (eqb (after b) 3)) (implied (leb 0x80 (leadKind a)) _ k (le-leb 0x80 (leadKind a) h)) in
+          (not-true _ (m .0), not-true _ (m .1))
+
+-- what the byte after a token is not
+module _ (b : ℕ) (l : b < 256) where
+  byte : (p : ℕ → Bool) (c : ℕ) → agree (λ b. eqb (after b) c || p b) (λ b. true) 256 ≡ true → eqb (after b) c ≡ false → p b ≡ true
+  byte p c f e = go (or-cases (eqb (after b) c) (p b) (agree-at (λ b. eqb (after b) c || p b) (λ b. true) 256 f b l))
+    where
+      go : (eqb (after b) c ≡ true) ⊎ (p b ≡ true) → p b ≡ true
+      go (inl q) = clash q e
+      go (inr q) = q
+
+  pub not-wide : eqb (after b) 4 ≡ false → b < 0x80
+  unfolding after
+  not-wide e = ltb-true b 0x80 (byte (λ b. ltb b 0x80) 4 refl e)
+
+  pub not-letter : eqb (after b) 1 ≡ false → startsWord b ≡ false
+  unfolding after
+  not-letter e = not-true _ (byte (λ b. not (startsWord b)) 1 refl e)
+
+  pub not-dot : eqb (after b) 2 ≡ false → eqb b dot ≡ false
+  unfolding after
+  not-dot e = not-true _ (byte (λ b. not (eqb b dot)) 2 refl e)
+
+  pub not-second : eqb (after b) 3 ≡ false → among seconds b ≡ false
+  unfolding after
+  not-second e = not-true _ (byte (λ b. not (among seconds b)) 3 refl e)
+
+pub kind-of : (b : ℕ) → b < 256 → lead b % 128 ≡ leadKind b % 128
+kind-of b l = parts b l .1
+
+pub kind-small : (b : ℕ) → b < 256 → leadKind b < 256
+unfolding leadKind single
+kind-small b l = ltb-true (leadKind b) 256 (agree-at (λ b. ltb (leadKind b) 256) (λ b. true) 256 refl b l)
