@@ -18,8 +18,8 @@ use Rattle.rules.proofs.Tests.{clash, eqb-true}
 use Rattle.rules.proofs.Decoding.{within-text}
 use Rattle.rules.proofs.HereDocs.{begins-next, begins-differ, later, find-over, find-pass, opening, opening-size, opening-first, opening-plain, here-by}
 use Rattle.lexer.specs.HereDocs.{TagEnd}
-use Rattle.ahead.specs.Nodes.{nodeAt, Seen}
-use Rattle.ahead.proofs.Nodes.{node-same}
+use Rattle.ahead.specs.Slots.{slotAt, Seen}
+use Rattle.ahead.proofs.Slots.{slot-same}
 
 -- The `$` at p, its tag up to e, and the `$` there.
 module _ (s : List ℕ) (p e : ℕ) (t : TagEnd s (p + 1) e) (a : getD s p 0 ≡ dollar) (z : getD s e 0 ≡ dollar) where
@@ -62,21 +62,21 @@ module _ (s : List ℕ) (p e : ℕ) (t : TagEnd s (p + 1) e) (a : getD s p 0 ≡
   same : (q k : ℕ) → begins d (chars (drop q s)) ≡ true → k < e + 1 - p → getD s (q + k) 0 ≡ getD s (p + k) 0
   same q k b h = same-at q k h (again q k (omega arith) b)
 
-  same-node : (tree : List ℕ) (q : ℕ) → begins d (chars (drop q s)) ≡ true → nodeAt s tree q ≡ nodeAt s tree p
-  same-node tree q b =
+  same-slot : (table : List ℕ) (q : ℕ) → begins d (chars (drop q s)) ≡ true → slotAt s table q ≡ slotAt s table p
+  same-slot table q b =
       let f = t .from in
-      node-same tree s (e - (p + 1)) 1 (p + 1) (q + 1) (λ k h. t .tags (p + 1 + k) (omega arith) (omega arith))
+      slot-same table s (p + 1) (q + 1) (e - (p + 1)) (λ k h. t .tags (p + 1 + k) (omega arith) (omega arith))
       (λ k h. let x : p + 1 + k ≡ p + (k + 1) = omega arith in let y : q + 1 + k ≡ q + (k + 1) = omega arith in rw (x, y) (same q (k + 1) b (omega arith)))
       (let x : p + 1 + (e - (p + 1)) ≡ e = omega arith in rw x z)
 
-  module _ (from : ℕ) (tree last : List ℕ) (v : Seen s from tree last (length s)) (low : from ≤ p) (n : nodeAt s tree p < length last) (le : getD last (nodeAt s tree p) 0 ≤ e) where
+  module _ (from : ℕ) (table last : List ℕ) (v : Seen s from table last (length s)) (low : from ≤ p) (n : slotAt s table p < length last) (le : getD last (slotAt s table p) 0 ≤ e) where
     never : (q : ℕ) → e < q → begins d (chars (drop q s)) ≡ true → ⊥
     never q h b =
         let f = t .from in
         let g : getD s q 0 ≡ dollar = rw (add-zero q, add-zero p) at (same q 0 b (omega arith)) ∙ a in
-        let m = same-node tree q b in
+        let m = same-slot table q b in
         let w = v .seen q (omega arith) (within-text s q (omega arith)) g (rw m n) in
-        let x : getD last (nodeAt s tree q) 0 ≡ getD last (nodeAt s tree p) 0 = ap (λ (k : ℕ). getD last k 0) m in
+        let x : getD last (slotAt s table q) 0 ≡ getD last (slotAt s table p) 0 = ap (λ (k : ℕ). getD last k 0) m in
         omega arith
 
     absent : (fuel q : ℕ) → length s - q ≤ fuel → e < q → find d (chars (drop q s)) ≡ none

@@ -7,11 +7,11 @@ use mathlib.Core.Path.{_≡_, refl, sym, ap, _∙_, subst}
 use mathlib.Core.List.{List}
 use mathlib.Core.Bool.{Bool, true, false, cond}
 use lib.Dec.{leb, ltb, eqb}
-use lib.ListN.{length, getD, set, replicate, length-replicate}
+use lib.ListN.{length, getD, set, replicate}
 use lib.Seq.{getD-set-same, getD-set-other}
 use borrow.Author.Tests.{ltb-true, ltb-false, leb-false}
 use Rattle.rules.proofs.Tests.{clash, eqb-true}
-use Rattle.ahead.specs.Marks.{Lone, bit, LoneWord, windowWords, LoneWords, LoneUntil, Marked, patience, Ready}
+use Rattle.ahead.specs.Marks.{Lone, bit, LoneWord, LoneWords, LoneUntil, Marked}
 
 -- no bit of 0 is set
 pub bit-none : (k : ℕ) → bit 0 k ≡ false
@@ -59,38 +59,39 @@ lone-more s from until u n at h l = go (decLt at until)
     go (no k) = let e : until ≡ at = omega arith in subst (Lone s) e n
 
 -- what both say together
-pub all-marked : (s : List ℕ) (from until : ℕ) (words : List ℕ) → LoneUntil s from until → LoneWords s until words windowWords → Marked s from until words
-all-marked s from until words u w at h e = go (ltb at until) (leb (windowWords * 64) (at - until)) refl refl e
+pub all-marked : (s : List ℕ) (from until : ℕ) (words : List ℕ) → LoneUntil s from until → LoneWords s until words (length words) → Marked s from until words
+all-marked s from until words u w at h e = go (ltb at until) (leb (length words) ((at - until) / 64)) refl refl e
   where
     word : ℕ
     word = getD words ((at - until) / 64) 0
 
-    go : (x y : Bool) → ltb at until ≡ x → leb (windowWords * 64) (at - until) ≡ y → cond x true (cond y false (bit word ((at - until) % 64))) ≡ true → Lone s at
+    go : (x y : Bool) → ltb at until ≡ x → leb (length words) ((at - until) / 64) ≡ y → cond x true (cond y false (bit word ((at - until) % 64))) ≡ true → Lone s at
     go true y p q e = u at h (ltb-true at until p)
     go false true p q e = clash e refl
     go false false p q e =
         let l = ltb-false at until p in
-        let m = leb-false (windowWords * 64) (at - until) q in
+        let m = leb-false (length words) ((at - until) / 64) q in
         let z : until + (at - until) / 64 * 64 + (at - until) % 64 ≡ at = omega arith in
         subst (Lone s) z (w ((at - until) / 64) (omega arith) ((at - until) % 64) e)
 
 -- nothing is marked at first
-pub none-marked : (s : List ℕ) (from : ℕ) (words : List ℕ) → ((m : ℕ) → getD words m 0 ≡ 0) → Marked s from 0 words
-none-marked s from words z at h e = go (ltb at 0) (leb (windowWords * 64) (at - 0)) refl e
+none-marked : (s : List ℕ) (from : ℕ) (words : List ℕ) → ((m : ℕ) → getD words m 0 ≡ 0) → Marked s from 0 words
+none-marked s from words z at h e = go (ltb at 0) (leb (length words) ((at - 0) / 64)) refl e
   where
     go : (x y : Bool) → ltb at 0 ≡ x → cond x true (cond y false (bit (getD words ((at - 0) / 64) 0) ((at - 0) % 64))) ≡ true → Lone s at
     go true y p e = let l = ltb-true at 0 p in absurd (omega arith)
     go false true p e = clash e refl
     go false false p e = clash e (ap (λ (n : ℕ). bit n ((at - 0) % 64)) (z ((at - 0) / 64)) ∙ bit-none ((at - 0) % 64))
 
--- before the first call
-pub ready-none : (s : List ℕ) → Ready s 0 0 0 (replicate windowWords 0)
-ready-none s = record { size = length-replicate {A = ℕ} windowWords 0; short = omega arith; right = none-marked s 0 (replicate windowWords 0) (zeros windowWords) }
+-- before the first look
+pub marked-none : (s : List ℕ) (n : ℕ) → Marked s 0 0 (replicate n 0)
+marked-none s n = none-marked s 0 (replicate n 0) (zeros n)
   where
     zeros : (n m : ℕ) → getD (replicate {A = ℕ} n 0) m 0 ≡ 0
     zeros zero m = refl
     zeros (suc n) zero = refl
     zeros (suc n) (suc m) = zeros n m
 
-pub ready-later : (s : List ℕ) (from from′ until vain vain′ : ℕ) (words : List ℕ) → from ≤ from′ → vain′ ≤ patience → Ready s from until vain words → Ready s from′ until vain′ words
-ready-later s from from′ until vain vain′ words h l r = record { size = r .size; short = l; right = λ at k e. r .right at (omega arith) e }
+-- further on
+pub marked-later : (s : List ℕ) (from from′ until : ℕ) (words : List ℕ) → from ≤ from′ → Marked s from until words → Marked s from′ until words
+marked-later s from from′ until words h m at k e = m at (omega arith) e

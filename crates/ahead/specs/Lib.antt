@@ -1,3 +1,3 @@
--- What the contracts say beside the rules: a tree of tags, and which `$` are marked.
-pub mod Nodes
+-- What the contracts say beside the rules: a table of tags, and which `$` are marked.
+pub mod Slots
 pub mod Marks

@@ -21,11 +21,7 @@ bit word k = eqb (word / 2 ^ k % 2) 1
 abbrev pub LoneWord : List ℕ → ℕ → ℕ → Type 0
 LoneWord s at word = (k : ℕ) → bit word k ≡ true → Lone s (at + k)
 
--- The words of a window.
-abbrev pub windowWords : ℕ
-windowWords = 256
-
--- Its first n words mark none wrongly.
+-- The first n words of a window mark none wrongly.
 abbrev pub LoneWords : List ℕ → ℕ → List ℕ → ℕ → Type 0
 LoneWords s at words n = (m : ℕ) → m < n → LoneWord s (at + m * 64) (getD words m 0)
 
@@ -34,18 +30,12 @@ LoneUntil s from until = (at : ℕ) → from ≤ at → at < until → Lone s at
 
 -- An offset is marked: it lies before `until`, or its bit is set in the window from there on.
 abbrev pub marked : ℕ → List ℕ → ℕ → Bool
-marked until words at = cond (ltb at until) true (cond (leb (windowWords * 64) (at - until)) false (bit (getD words ((at - until) / 64) 0) ((at - until) % 64)))
+marked until words at = cond (ltb at until) true (cond (leb (length words) ((at - until) / 64)) false (bit (getD words ((at - until) / 64) 0) ((at - until) % 64)))
 
 -- None is marked wrongly, from an offset on.
 abbrev pub Marked : List ℕ → ℕ → ℕ → List ℕ → Type 0
 Marked s from until words = (at : ℕ) → from ≤ at → marked until words at ≡ true → Lone s at
 
 -- After so many bytes that were searched in vain it pays to look ahead.
-abbrev pub patience : ℕ
-patience = 1000000
-
--- What goes from one token to the next: none is marked wrongly from here on, and not too many bytes were searched in vain.
-pub record Ready (s : List ℕ) (from until vain : ℕ) (words : List ℕ) : Type 0 where
-  pub size : length words ≡ windowWords
-  pub short : vain ≤ patience
-  pub right : Marked s from until words
+abbrev pub lookAfter : ℕ
+lookAfter = 1000000

@@ -4,3 +4,4 @@ pub mod Drops
 pub mod Tells
 pub mod Tokens
 pub mod Walks
+pub mod Going

@@ -9,14 +9,15 @@ use mathlib.Core.Logic.{_⊎_, inl, inr}
 use lib.ListN.{getD}
 use lib.Dec.{leb, ltb, eqb}
 use borrow.Author.Tests.{not-true, ltb-true, eq-eqb, le-leb}
-use Rattle.rules.specs.Characters.{dot, backslash}
-use Rattle.rules.specs.Kinds.{NoToken, Whitespace, Number, BareWord}
+use Rattle.rules.specs.Characters.{dollar, dot, backslash}
+use Rattle.rules.specs.Kinds.{NoToken, Whitespace, Number, BareWord, DollarSign}
 use Rattle.rules.specs.Operators.{single}
 use Rattle.rules.specs.Words.{startsWord}
+use Rattle.rules.specs.Dollars.{tagByte}
 use Rattle.rules.proofs.Tests.{clash, eqb-true, or-cases, and-both}
 use Rattle.rules.proofs.Tables.{agree, agree-at}
 use Rattle.lexer.specs.Leads.{among, leadKind}
-use Rattle.edges.specs.Leads.{seconds, after, minds, lead, told, leadsFrom, leadTable}
+use Rattle.edges.specs.Leads.{seconds, after, minds, plainKind, lead, told, leadsFrom, leadTable}
 
 from : (n b k : ℕ) → k < n → getD (leadsFrom n b) k 0 ≡ lead (b + k)
 unfolding leadsFrom
@@ -29,20 +30,20 @@ unfolding leadTable
 in-table b l = from 256 0 b l ∙ ap lead (omega arith)
 
 pub lead-small : (b : ℕ) → b < 256 → lead b < 0x2_0000
-unfolding lead minds after leadKind single
+unfolding lead minds after plainKind leadKind single
 lead-small b l = ltb-true (lead b) 0x2_0000 (agree-at (λ b. ltb (lead b) 0x2_0000) (λ b. true) 256 refl b l)
 
 -- the parts of a number
-parts : (b : ℕ) → b < 256 → (lead b / 4096 ≡ after b) × (lead b % 128 ≡ leadKind b % 128)
-unfolding lead minds after leadKind single
+parts : (b : ℕ) → b < 256 → (lead b / 8192 ≡ after b) × (lead b % 64 ≡ plainKind b)
+unfolding lead minds after plainKind leadKind single
 parts b l =
-    let t = and-both (eqb (lead b / 4096) (after b)) (eqb (lead b % 128) (leadKind b % 128)) (agree-at (λ b. eqb (lead b / 4096) (after b) && eqb (lead b % 128) (leadKind b % 128)) (λ b. true) 256 refl b l) in
+    let t = and-both (eqb (lead b / 8192) (after b)) (eqb (lead b % 64) (plainKind b)) (agree-at (λ b. eqb (lead b / 8192) (after b) && eqb (lead b % 64) (plainKind b)) (λ b. true) 256 refl b l) in
     (eqb-true (t .0), eqb-true (t .1))
 
 -- what a byte after a token is not
-small : (b : ℕ) → b < 256 → after b < 5
+small : (b : ℕ) → b < 256 → after b < 7
 unfolding after
-small b l = ltb-true (after b) 5 (agree-at (λ b. ltb (after b) 5) (λ b. true) 256 refl b l)
+small b l = ltb-true (after b) 7 (agree-at (λ b. ltb (after b) 7) (λ b. true) 256 refl b l)
 
 implied : (x y : Bool) → (not x || y) ≡ true → x ≡ true → y ≡ true
 implied true y h e = h
@@ -50,13 +51,13 @@ implied false y h e = clash e refl
 
 -- A first byte that minds nothing of a byte of the class c.
 abbrev minded : ℕ → ℕ → Bool
-minded a c = not (eqb (lead a / 128 / 2 ^ c % 2) 0)
+minded a c = not (eqb (lead a / 64 / 2 ^ c % 2) 0)
 
 module _ (p : ℕ → ℕ → Bool) where
   abbrev pair : ℕ → Bool
   pair n = minded (n / 8) (n % 8) || p (n / 8) (n % 8)
 
-  pub unminded : agree pair (λ n. true) 2048 ≡ true → (a c : ℕ) → a < 256 → c < 8 → eqb (lead a / 128 / 2 ^ c % 2) 0 ≡ true → p a c ≡ true
+  pub unminded : agree pair (λ n. true) 2048 ≡ true → (a c : ℕ) → a < 256 → c < 8 → eqb (lead a / 64 / 2 ^ c % 2) 0 ≡ true → p a c ≡ true
   unminded f a c l m e =
       let x : (a * 8 + c) / 8 ≡ a = omega arith in
       let y : (a * 8 + c) % 8 ≡ c = omega arith in
@@ -69,8 +70,8 @@ module _ (p : ℕ → ℕ → Bool) where
 
 -- What is known where nothing is minded: of the first byte, and of the byte after the token.
 module _ (a b : ℕ) (la : a < 256) (lb : b < 256) (t : told (lead a) (lead b) ≡ true) where
-  at-class : eqb (lead a / 128 / 2 ^ after b % 2) 0 ≡ true
-  at-class = sym (ap (λ (c : ℕ). eqb (lead a / 128 / 2 ^ c % 2) 0) (parts b lb .0)) ∙ t
+  at-class : eqb (lead a / 64 / 2 ^ after b % 2) 0 ≡ true
+  at-class = sym (ap (λ (c : ℕ). eqb (lead a / 64 / 2 ^ c % 2) 0) (parts b lb .0)) ∙ t
 
   class-small : after b < 8
   class-small = let h = small b lb in omega arith
@@ -83,34 +84,42 @@ module _ (a b : ℕ) (la : a < 256) (lb : b < 256) (t : told (lead a) (lead b) �
     not-class : leadKind a ≡ k → eqb (after b) c ≡ false
     not-class e = not-true _ (implied (eqb (leadKind a) k) (not (eqb (after b) c)) (knows (λ a d. not (eqb (leadKind a) k) || not (eqb d c)) f) (eq-eqb (leadKind a) k e))
 
-  pub some-kind : leadKind a ≡ NoToken → ⊥
-  unfolding lead minds after leadKind single
-  some-kind e = let k = knows (λ a c. ltb 4 c || not (eqb (leadKind a) NoToken)) refl in go (ltb 4 (after b)) refl k
+  -- only a `$` is told of those at which a body or a character past ASCII starts
+  pub some-kind : leadKind a ≡ NoToken → a ≡ dollar
+  unfolding lead minds after plainKind leadKind single
+  some-kind e = let k = knows (λ a c. ltb 6 c || (not (eqb (leadKind a) NoToken) || eqb a dollar)) refl in go (ltb 6 (after b)) refl k
     where
-      go : (x : Bool) → ltb 4 (after b) ≡ x → (x || not (eqb (leadKind a) NoToken)) ≡ true → ⊥
-      go true q k = let l = ltb-true 4 (after b) q in let h = small b lb in absurd (omega arith)
-      go false q k = clash k (ap (λ (k : ℕ). not (eqb k NoToken)) e)
+      go : (x : Bool) → ltb 6 (after b) ≡ x → (x || (not (eqb (leadKind a) NoToken) || eqb a dollar)) ≡ true → a ≡ dollar
+      go true q k = let l = ltb-true 6 (after b) q in let h = small b lb in absurd (omega arith)
+      go false q k = eqb-true (implied (eqb (leadKind a) NoToken) (eqb a dollar) k (eq-eqb (leadKind a) NoToken e))
+
+  pub of-dollar : a ≡ dollar → (eqb (after b) 1 ≡ false) × (eqb (after b) 5 ≡ false) × (eqb (after b) 6 ≡ false)
+  unfolding lead minds after plainKind leadKind single
+  of-dollar e = (other 1 refl, other 5 refl, other 6 refl)
+    where
+      other : (c : ℕ) → agree (pair (λ a d. not (eqb a dollar) || not (eqb d c))) (λ n. true) 2048 ≡ true → eqb (after b) c ≡ false
+      other c f = not-true _ (implied (eqb a dollar) (not (eqb (after b) c)) (knows (λ a d. not (eqb a dollar) || not (eqb d c)) f) (eq-eqb a dollar e))
 
   pub of-word : leadKind a ≡ BareWord → (eqb (after b) 4 ≡ false) × (eqb (after b) 1 ≡ false)
-  unfolding lead minds after leadKind single
+  unfolding lead minds after plainKind leadKind single
   of-word e = (not-class BareWord 4 refl e, not-class BareWord 1 refl e)
 
   pub of-number : leadKind a ≡ Number → (eqb (after b) 4 ≡ false) × (eqb (after b) 1 ≡ false) × (eqb (after b) 2 ≡ false)
-  unfolding lead minds after leadKind single
+  unfolding lead minds after plainKind leadKind single
   of-number e = (not-class Number 4 refl e, not-class Number 1 refl e, not-class Number 2 refl e)
 
   pub of-space : leadKind a ≡ Whitespace → eqb (after b) 4 ≡ false
-  unfolding lead minds after leadKind single
+  unfolding lead minds after plainKind leadKind single
   of-space e = not-class Whitespace 4 refl e
 
   pub of-longer : 0x80 ≤ leadKind a → (eqb a backslash ≡ false) × (eqb (after b) 3 ≡ false)
-  unfolding lead minds after leadKind single
+  unfolding lead minds after plainKind leadKind single
   of-longer h =
-      let k = knows (λ a c. ltb 4 c || (not (leb 0x80 (leadKind a)) || (not (eqb a backslash) && not (eqb c 3)))) refl in
-      go (ltb 4 (after b)) refl k
+      let k = knows (λ a c. ltb 6 c || (not (leb 0x80 (leadKind a)) || (not (eqb a backslash) && not (eqb c 3)))) refl in
+      go (ltb 6 (after b)) refl k
     where
-      go : (x : Bool) → ltb 4 (after b) ≡ x → (x || (not (leb 0x80 (leadKind a)) || (not (eqb a backslash) && not (eqb (after b) 3)))) ≡ true → (eqb a backslash ≡ false) × (eqb (after b) 3 ≡ false)
-      go true q k = let l = ltb-true 4 (after b) q in let h = small b lb in absurd (omega arith)
+      go : (x : Bool) → ltb 6 (after b) ≡ x → (x || (not (leb 0x80 (leadKind a)) || (not (eqb a backslash) && not (eqb (after b) 3)))) ≡ true → (eqb a backslash ≡ false) × (eqb (after b) 3 ≡ false)
+      go true q k = let l = ltb-true 6 (after b) q in let h = small b lb in absurd (omega arith)
       go false q k =
           let m = and-both (not (eqb a backslash)) (not (eqb (after b) 3)) (implied (leb 0x80 (leadKind a)) _ k (le-leb 0x80 (leadKind a) h)) in
           (not-true _ (m .0), not-true _ (m .1))
@@ -136,12 +145,35 @@ module _ (b : ℕ) (l : b < 256) where
   unfolding after
   not-dot e = not-true _ (byte (λ b. not (eqb b dot)) 2 refl e)
 
+  pub not-tag : eqb (after b) 1 ≡ false → eqb (after b) 5 ≡ false → tagByte b ≡ false
+  unfolding after
+  not-tag e f =
+      let u = byte (λ b. eqb (after b) 5 || not (tagByte b)) 1 refl e in
+      go (or-cases (eqb (after b) 5) (not (tagByte b)) u)
+    where
+      go : (eqb (after b) 5 ≡ true) ⊎ (not (tagByte b) ≡ true) → tagByte b ≡ false
+      go (inl q) = clash q f
+      go (inr q) = not-true _ q
+
+  pub not-dollar : eqb (after b) 6 ≡ false → eqb b dollar ≡ false
+  unfolding after
+  not-dollar e = not-true _ (byte (λ b. not (eqb b dollar)) 6 refl e)
+
   pub not-second : eqb (after b) 3 ≡ false → among seconds b ≡ false
   unfolding after
   not-second e = not-true _ (byte (λ b. not (among seconds b)) 3 refl e)
 
-pub kind-of : (b : ℕ) → b < 256 → lead b % 128 ≡ leadKind b % 128
+pub kind-of : (b : ℕ) → b < 256 → lead b % 64 ≡ plainKind b
 kind-of b l = parts b l .1
+
+-- of a byte that tells a kind
+pub kind-told : (b : ℕ) → (leadKind b ≡ NoToken → ⊥) → plainKind b ≡ leadKind b % 128
+unfolding plainKind leadKind
+kind-told b n = go (eqb b dollar) refl
+  where
+    go : (x : Bool) → eqb b dollar ≡ x → cond x DollarSign (leadKind b % 128) ≡ leadKind b % 128
+    go true e = let q : b ≡ dollar = eqb-true e in absurd (n (ap leadKind q))
+    go false e = refl
 
 pub kind-small : (b : ℕ) → b < 256 → leadKind b < 256
 unfolding leadKind single

@@ -5,24 +5,25 @@ use native.Mathlib.Nat.{add-zero}
 use native.Mathlib.Decide.{decLt}
 use mathlib.Core.Path.{_≡_, refl, sym, ap, ap₂, _∙_, subst}
 use mathlib.Core.List.{List}
-use mathlib.Core.Bool.{Bool, true, false, not, _&&_, _||_, and-false}
+use mathlib.Core.Bool.{Bool, true, false, not, cond, _&&_, _||_, and-false}
 use mathlib.Core.Logic.{_⊎_, inl, inr}
 use lib.ListN.{length, getD, drop}
 use lib.Dec.{ltb, eqb}
 use borrow.Author.Tests.{ltb-true, ltb-false, lt-ltb, not-true, eq-eqb}
-use Rattle.rules.specs.Characters.{star, dash, slash, colon, less, equals, greater, at, backslash, bar}
+use Rattle.rules.specs.Characters.{dollar, star, dash, slash, colon, less, equals, greater, at, backslash, bar}
+use Rattle.rules.specs.Utf8.{within}
 use Rattle.rules.specs.Classes.{inRanges, whiteSpace, digit}
 use Rattle.rules.specs.Tables.{whiteSpaceTable}
-use Rattle.rules.specs.Kinds.{NoToken, Whitespace, Comment, Number, BareWord}
+use Rattle.rules.specs.Kinds.{NoToken, Whitespace, Number, BareWord, DollarSign}
 use Rattle.rules.specs.Lexeme.{two}
 use Rattle.rules.specs.Operators.{single, pair, spaceship}
 use Rattle.rules.specs.Words.{startsWord, wordCharacter}
 use Rattle.rules.specs.Dollars.{tagByte}
 use Rattle.rules.specs.Tokens.{lexeme, afterDotAt}
 use Rattle.rules.proofs.Tests.{clash, and-both, both, or-cases, eqb-true}
-use Rattle.rules.proofs.Tables.{agree, agree-at}
+use Rattle.rules.proofs.Tables.{agree, agree-at, ascii-space}
 use Rattle.rules.proofs.NumberBytes.{digit-ascii, radix-high}
-use Rattle.rules.proofs.RuleBytes.{by-spaces, by-letters, by-numeral}
+use Rattle.rules.proofs.RuleBytes.{by-spaces, by-letters, by-numeral, by-dollar}
 use Rattle.runs.specs.Classes.{past, inside, Skips}
 use Rattle.lexer.specs.Ends.{endsAt}
 use Rattle.lexer.specs.Leads.{among, leadKind, Operates}
@@ -31,14 +32,17 @@ use Rattle.lexer.specs.declared.tokenizer.Lexed.{Lexed}
 use Rattle.lexer.proofs.Classes.{ascii-agree, ascii-tag, below}
 use Rattle.lexer.proofs.Edges.{inside-words}
 use Rattle.lexer.proofs.Ends.{lexed-is}
-use Rattle.lexer.proofs.Leads.{lead-word, lead-space, lead-number, lead-no-comment, lead-operates, lead-alone, lead-longer}
+use Rattle.lexer.proofs.Leads.{lead-word, lead-space, lead-number, lead-operates, lead-alone, lead-longer}
+use Rattle.lexer.proofs.FirstBytes.{beyond}
+use Rattle.lexer.specs.HereDocs.{TagEnd}
+use Rattle.lexer.proofs.HereDocs.{no-tag}
 use Rattle.lexer.proofs.Matches.{not-among}
 use Rattle.lexer.proofs.Runs.{run-over}
 use Rattle.lexer.proofs.ShortNumbers.{told-whole}
 use Rattle.lexer.proofs.Shorts.{told-alone, told-single}
 use Rattle.blocks.specs.Edges.{wordEdges, figureEdges, outside, cuts, edge}
-use Rattle.edges.specs.Leads.{seconds, after, lead, told}
-use Rattle.edges.proofs.Tells.{some-kind, of-word, of-number, of-space, of-longer, not-wide, not-letter, not-dot, not-second, kind-of, kind-small}
+use Rattle.edges.specs.Leads.{seconds, after, plainKind, lead, told}
+use Rattle.edges.proofs.Tells.{some-kind, of-dollar, of-word, of-number, of-space, of-longer, not-wide, not-letter, not-dot, not-tag, not-dollar, not-second, kind-of, kind-told, kind-small}
 
 -- The two classes of a byte.
 abbrev inWord : ℕ → Bool
@@ -147,11 +151,11 @@ module _ (s : List ℕ) (i e : ℕ) (fits : (k : ℕ) → getD s k 0 < 256) (h :
     last = all (e - 1) (omega arith) (omega arith)
 
   abbrev Is : Type 0
-  Is = _≡_ {A = Lexed} (record { kind = lead a % 128; end = e }) (endsAt i (lexeme (afterDotAt s i) (drop i s)))
+  Is = _≡_ {A = Lexed} (record { kind = lead a % 64; end = e }) (endsAt i (lexeme (afterDotAt s i) (drop i s)))
 
   -- of a kind that the byte tells
-  named : (k : ℕ) → leadKind a ≡ k → k % 128 ≡ k → record { kind = k; end = e } ≡ endsAt i (lexeme (afterDotAt s i) (drop i s)) → Is
-  named k f m r = ap {B = Lexed} (λ (n : ℕ). record { kind = n; end = e }) (kind-of a (fits i) ∙ ap (λ (n : ℕ). n % 128) f ∙ m) ∙ r
+  named : (k : ℕ) → leadKind a ≡ k → 0 < k → k < 128 → record { kind = k; end = e } ≡ endsAt i (lexeme (afterDotAt s i) (drop i s)) → Is
+  named k f n m r = ap {B = Lexed} (λ (n : ℕ). record { kind = n; end = e }) (kind-of a (fits i) ∙ kind-told a (λ z. omega (arith, f)) ∙ omega (arith, f)) ∙ r
 
   -- a word
   word-step : (x y : ℕ) → inWord x ≡ true → cuts (not (inWord y)) (not (inFigure y)) (not (inWord x)) (not (inFigure x)) ≡ false → inWord y ≡ true
@@ -165,7 +169,7 @@ module _ (s : List ℕ) (i e : ℕ) (fits : (k : ℕ) → getD s k 0 < 256) (h :
       let first : inWord a ≡ true = inside-words a ∙ both (ltb a 0x80) (wordCharacter a) (lt-ltb a 0x80 (v .0)) (tagged (v .0) (v .1)) in
       let stop : inWord b ≡ false = ends first (u .1) in
       let r : Skips asciiWord s i e = record { from = omega arith; upto = omega arith; pass = λ k m n. sym (inside-words (getD s k 0)) ∙ all inWord first word-step k m n; stop = λ x. sym (inside-words b) ∙ stop } in
-      named BareWord k refl (lexed-is i (by-letters (afterDotAt s i) s i h (v .0) (v .1)) e (run-over s i e wordCharacter r (omega arith) bl))
+      named BareWord k (omega arith) (omega arith) (lexed-is i (by-letters (afterDotAt s i) s i h (v .0) (v .1)) e (run-over s i e wordCharacter r (omega arith) bl))
     where
       tagged : a < 0x80 → startsWord a ≡ true → wordCharacter a ≡ true
       tagged l q = ascii-tag a l ∙ agreed
@@ -207,7 +211,7 @@ module _ (s : List ℕ) (i e : ℕ) (fits : (k : ℕ) → getD s k 0 < 256) (h :
       let w = and-both (not (inWord (getD s (e - 1) 0))) (inFigure (getD s (e - 1) 0)) (last spaceByte first space-step) in
       let stop : spaceByte b ≡ false = space-off (inWord b) (inFigure b) (subst (λ (u : Bool). cuts (not (inWord b)) (not (inFigure b)) true (not u) ≡ true) (w .1) (subst (λ (u : Bool). cuts (not (inWord b)) (not (inFigure b)) u (not (inFigure (getD s (e - 1) 0))) ≡ true) (w .0) some)) in
       let r : Skips (λ b. ltb b 0x80 && whiteSpace b) s i e = record { from = omega arith; upto = omega arith; pass = λ k m n. sym (split (getD s k 0) .1) ∙ all spaceByte first space-step k m n; stop = λ x. sym (split b .1) ∙ stop } in
-      named Whitespace k refl (lexed-is i (by-spaces (afterDotAt s i) s i h (v .0) (v .1)) e (run-over s i e whiteSpace r (omega arith) bl))
+      named Whitespace k (omega arith) (omega arith) (lexed-is i (by-spaces (afterDotAt s i) s i h (v .0) (v .1)) e (run-over s i e whiteSpace r (omega arith) bl))
 
   -- digits
   abbrev digitByte : ℕ → Bool
@@ -227,7 +231,7 @@ module _ (s : List ℕ) (i e : ℕ) (fits : (k : ℕ) → getD s k 0 < 256) (h :
       let w = and-both (inWord (getD s (e - 1) 0)) (inFigure (getD s (e - 1) 0)) (last digitByte first digit-step) in
       let stop : digitByte b ≡ false = digit-off (inWord b) (inFigure b) (subst (λ (u : Bool). cuts (not (inWord b)) (not (inFigure b)) false (not u) ≡ true) (w .1) (subst (λ (u : Bool). cuts (not (inWord b)) (not (inFigure b)) (not u) (not (inFigure (getD s (e - 1) 0))) ≡ true) (w .0) some)) in
       let r : Skips digit s (i + 1) e = record { from = omega arith; upto = omega arith; pass = λ k m n. sym (split (getD s k 0) .0) ∙ all digitByte first digit-step k (omega arith) n; stop = λ x. sym (split b .0) ∙ stop } in
-      named Number k refl
+      named Number k (omega arith) (omega arith)
       (told-whole s i e h (v .1) (omega arith) bl (no-word bl stop (not-letter b (fits e) (u .1))) r (not-dot b (fits e) (u .2)) (afterDotAt s i)
       ∙ ap (endsAt i) (sym (by-numeral (afterDotAt s i) s i h (digit-ascii s i h (v .1)) (v .1))))
     where
@@ -239,15 +243,15 @@ module _ (s : List ℕ) (i e : ℕ) (fits : (k : ℕ) → getD s k 0 < 256) (h :
           go true true p q = clash (ap₂ _&&_ p q) d
           go true false p q = clash (starts b p q) n
 
-  -- an operator, which ends at once
-  at-next : Operates a → e ≡ i + 1
-  at-next o = go (decLt (i + 1) e)
+  -- a byte that is neither a word's nor white space ends at once
+  at-next : wordCharacter a ≡ false → whiteSpace a ≡ false → e ≡ i + 1
+  at-next w f = go (decLt (i + 1) e)
     where
       no-w : inWord a ≡ false
-      no-w = inside-words a ∙ ap (λ (t : Bool). ltb a 0x80 && t) (o .word) ∙ and-false (ltb a 0x80)
+      no-w = inside-words a ∙ ap (λ (t : Bool). ltb a 0x80 && t) w ∙ and-false (ltb a 0x80)
 
       no-f : inFigure a ≡ false
-      no-f = sym (ap (λ (t : Bool). not t && inFigure a) no-w) ∙ split a .1 ∙ ap (λ (t : Bool). ltb a 0x80 && t) (o .space) ∙ and-false (ltb a 0x80)
+      no-f = sym (ap (λ (t : Bool). not t && inFigure a) no-w) ∙ split a .1 ∙ ap (λ (t : Bool). ltb a 0x80 && t) f ∙ and-false (ltb a 0x80)
 
       go : Dec (i + 1 < e) → e ≡ i + 1
       go (no m) = omega arith
@@ -261,34 +265,47 @@ module _ (s : List ℕ) (i e : ℕ) (fits : (k : ℕ) → getD s k 0 < 256) (h :
   alone m n =
       let o = lead-operates a m in
       let v = lead-alone a m n in
-      named (leadKind a) refl (omega arith)
-      (ap {B = Lexed} (λ (k : ℕ). record { kind = leadKind a; end = k }) (at-next o) ∙ told-alone (afterDotAt s i) s i h o (v .0) (leadKind a) (v .1))
+      named (leadKind a) refl (omega arith) (omega arith)
+      (ap {B = Lexed} (λ (k : ℕ). record { kind = leadKind a; end = k }) (at-next (o .word) (o .space)) ∙ told-alone (afterDotAt s i) s i h o (v .0) (leadKind a) (v .1))
 
   longer : BareWord < leadKind a → 0x80 ≤ leadKind a → Is
   longer m n =
       let o = lead-operates a m in
       let u = of-longer a b (fits i) (fits e) t n in
-      let q = at-next o in
+      let q = at-next (o .word) (o .space) in
       let sec : among seconds (getD s (i + 1) 0) ≡ false = subst (λ (k : ℕ). among seconds (getD s k 0) ≡ false) q (not-second b (fits e) (u .1)) in
       let w = not-among seconds (getD s (i + 1) 0) sec in
       ap {B = Lexed} (λ (x : Lexed). x) (ends q)
-      ∙ told-single (afterDotAt s i) s i h o (simp (w equals refl, w greater refl, and-false)) (simp (w dash refl, and-false)) (simp (w star refl, and-false)) 0 (sym (pair-second a (getD s (i + 1) 0) (u .0) sec)) refl (lead a % 128) (lead-longer a n ∙ rest)
+      ∙ told-single (afterDotAt s i) s i h o (simp (w equals refl, w greater refl, and-false)) (simp (w dash refl, and-false)) (simp (w star refl, and-false)) 0 (sym (pair-second a (getD s (i + 1) 0) (u .0) sec)) refl (lead a % 64) (lead-longer a n ∙ rest)
     where
-      ends : e ≡ i + 1 → _≡_ {A = Lexed} (record { kind = lead a % 128; end = e }) (record { kind = lead a % 128; end = i + 1 })
-      ends q = ap {B = Lexed} (λ (k : ℕ). record { kind = lead a % 128; end = k }) q
+      ends : e ≡ i + 1 → _≡_ {A = Lexed} (record { kind = lead a % 64; end = e }) (record { kind = lead a % 64; end = i + 1 })
+      ends q = ap {B = Lexed} (λ (k : ℕ). record { kind = lead a % 64; end = k }) q
 
-      rest : leadKind a - 0x80 ≡ lead a % 128
-      rest = omega (arith, kind-of a (fits i), kind-small a (fits i))
+      rest : leadKind a - 0x80 ≡ lead a % 64
+      rest = omega (arith, kind-of a (fits i), kind-told a (λ z. omega arith), kind-small a (fits i))
+
+  -- a `$` before a byte that is no tag's and no `$`
+  dollars : a ≡ dollar → Is
+  unfolding plainKind
+  dollars k =
+      let u = of-dollar a b (fits i) (fits e) t k in
+      let q = at-next (ascii-tag a (omega arith) ∙ ap tagByte k) (ascii-space a (omega arith) ∙ ap (λ (x : ℕ). eqb x 0x20 || within 0x09 0x0D x) k) in
+      let r : TagEnd s (i + 1) e = record { from = omega arith; upto = omega arith; tags = λ k m n. absurd (omega arith); over = not-tag b (fits e) (u .0) (u .1) } in
+      ap {B = Lexed} (λ (n : ℕ). record { kind = n; end = e }) (kind-of a (fits i) ∙ ap (λ (x : Bool). cond x DollarSign (leadKind a % 128)) (eq-eqb a dollar k))
+      ∙ ap {B = Lexed} (λ (n : ℕ). record { kind = DollarSign; end = n }) q
+      ∙ no-tag s i e r (λ z. clash (eq-eqb b dollar z) (not-dollar b (fits e) (u .2)))
+      ∙ ap (endsAt i) (sym (by-dollar (afterDotAt s i) s i h (omega arith) k))
 
   pub plain : Is
-  plain = go (eqb (leadKind a) BareWord) (eqb (leadKind a) Whitespace) (eqb (leadKind a) Number) (decLt (leadKind a) 0x80) refl refl refl
+  plain = go (eqb (leadKind a) BareWord) (eqb (leadKind a) Whitespace) (eqb (leadKind a) Number) (eqb (leadKind a) NoToken) (decLt (leadKind a) 0x80) refl refl refl refl
     where
       other : (k : ℕ) → eqb (leadKind a) k ≡ false → leadKind a ≡ k → ⊥
       other k f q = clash (eq-eqb (leadKind a) k q) f
 
-      go : (u v w : Bool) → Dec (leadKind a < 0x80) → eqb (leadKind a) BareWord ≡ u → eqb (leadKind a) Whitespace ≡ v → eqb (leadKind a) Number ≡ w → Is
-      go true v w x p q r = word (eqb-true p)
-      go false true w x p q r = space (eqb-true q)
-      go false false true x p q r = number (eqb-true r)
-      go false false false (yes x) p q r = alone (omega (arith, other BareWord p, other Whitespace q, other Number r, some-kind a b (fits i) (fits e) t, lead-no-comment a)) x
-      go false false false (no x) p q r = longer (omega arith) (omega arith)
+      go : (u v w n : Bool) → Dec (leadKind a < 0x80) → eqb (leadKind a) BareWord ≡ u → eqb (leadKind a) Whitespace ≡ v → eqb (leadKind a) Number ≡ w → eqb (leadKind a) NoToken ≡ n → Is
+      go true v w n x p q r z = word (eqb-true p)
+      go false true w n x p q r z = space (eqb-true q)
+      go false false true n x p q r z = number (eqb-true r)
+      go false false false true x p q r z = dollars (some-kind a b (fits i) (fits e) t (eqb-true z))
+      go false false false false (yes x) p q r z = alone (beyond a (other NoToken z) (other Whitespace q) (other Number r) (other BareWord p)) x
+      go false false false false (no x) p q r z = longer (omega arith) (omega arith)

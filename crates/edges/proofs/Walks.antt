@@ -63,7 +63,7 @@ module _ (s : List ℕ) (start base bits : ℕ) (n : bits ≡ 0 → ⊥) (b : Le
       sym (is-after s start q h) ∙ subst (λ (k : ℕ). edgeAfter s start k ≡ false) x (found .none (q - base) (let f = block .from in omega arith))
 
   pub token : ((k : ℕ) → getD s k 0 < 256) → start < length s → told (lead (getD s start 0)) (lead (getD s (base + z) 0)) ≡ true
-      → _≡_ {A = Lexed} (record { kind = lead (getD s start 0) % 128; end = base + z }) (endsAt start (lexeme (afterDotAt s start) (drop start s)))
+      → _≡_ {A = Lexed} (record { kind = lead (getD s start 0) % 64; end = base + z }) (endsAt start (lexeme (afterDotAt s start) (drop start s)))
   token fits h t = plain s start (base + z) fits h end-after end-in none (here .1) t
 
   pub next : Left s (base + z) base (bitAnd bits (bits - 1))

@@ -1,7 +1,11 @@
 // The tokens of a text from edge to edge, as far as a token's first byte and the byte after it tell that it is one.
-use ahead::next_token as read_token;
+use ahead::read_dollar;
 use blocks::edges;
 use lexer::syntax_kind::SyntaxKind;
+use lexer::tokenizer::end_of;
+use lexer::tokenizer::join;
+use lexer::tokenizer::kind_of;
+use lexer::tokenizer::next_token;
 use lexer::tokenizer::read_string;
 ghost use mathlib.Core.Path.{_≡_};
 ghost use Prim.Native.Nat.{ℕ, _+_, _≤_, _<_};
@@ -9,7 +13,8 @@ ghost use lib.ListN.{length};
 ghost use mathlib.Core.List.{List};
 ghost use Rattle.rules.specs.Kinds.{NoToken};
 ghost use Rattle.rules.specs.Limits.{maxQuerySize};
-ghost use Rattle.ahead.specs.Marks.{Ready};
+ghost use Rattle.lexer.specs.Ends.{Lexes};
+ghost use Rattle.ahead.specs.Marks.{Marked};
 ghost use Rattle.edges.specs.Leads.{lead, told, leadTable};
 ghost use Rattle.edges.specs.Left.{Left, Taken};
 
@@ -26,11 +31,11 @@ pub const LEADS: Leads = [
     0x002F,
     0x002F,
     0x002F,
-    0x0801,
-    0x0801,
-    0x0801,
-    0x0801,
-    0x0801,
+    0x0401,
+    0x0401,
+    0x0401,
+    0x0401,
+    0x0401,
     0x002F,
     0x002F,
     0x002F,
@@ -49,230 +54,230 @@ pub const LEADS: Leads = [
     0x002F,
     0x002F,
     0x002F,
-    0x0801,
-    0x042D,
-    0x0F80,
+    0x0401,
+    0x022D,
+    0x1FC0,
     0x002F,
-    0x0F80,
+    0xD892,
     0x0017,
     0x002F,
-    0x0F80,
+    0x1FC0,
     0x0008,
     0x0009,
-    0x3011,
+    0x6011,
     0x0013,
     0x000E,
-    0x3414,
-    0x2010,
-    0x0416,
-    0x0B03,
-    0x0B03,
-    0x0B03,
-    0x0B03,
-    0x0B03,
-    0x0B03,
-    0x0B03,
-    0x0B03,
-    0x0B03,
-    0x0B03,
-    0x3419,
+    0x6214,
+    0x4010,
+    0x0216,
+    0xA583,
+    0xA583,
+    0xA583,
+    0xA583,
+    0xA583,
+    0xA583,
+    0xA583,
+    0xA583,
+    0xA583,
+    0xA583,
+    0x6219,
     0x000F,
-    0x341F,
-    0x341C,
-    0x3421,
+    0x621F,
+    0x621C,
+    0x6221,
     0x0018,
-    0x3424,
-    0x1904,
-    0x1904,
-    0x1904,
-    0x1904,
-    0x1904,
-    0x1904,
-    0x1904,
-    0x1904,
-    0x1904,
-    0x1904,
-    0x1904,
-    0x1904,
-    0x1904,
-    0x1904,
-    0x1904,
-    0x1904,
-    0x1904,
-    0x1904,
-    0x1904,
-    0x1904,
-    0x1904,
-    0x1904,
-    0x1904,
-    0x1904,
-    0x1904,
-    0x1904,
+    0x6224,
+    0x2484,
+    0x2484,
+    0x2484,
+    0x2484,
+    0x2484,
+    0x2484,
+    0x2484,
+    0x2484,
+    0x2484,
+    0x2484,
+    0x2484,
+    0x2484,
+    0x2484,
+    0x2484,
+    0x2484,
+    0x2484,
+    0x2484,
+    0x2484,
+    0x2484,
+    0x2484,
+    0x2484,
+    0x2484,
+    0x2484,
+    0x2484,
+    0x2484,
+    0x2484,
     0x000A,
-    0x0FAF,
+    0x1FEF,
     0x000B,
     0x001B,
-    0x1904,
-    0x0F80,
-    0x1904,
-    0x1904,
-    0x1904,
-    0x1904,
-    0x1904,
-    0x1904,
-    0x1904,
-    0x1904,
-    0x1904,
-    0x1904,
-    0x1904,
-    0x1904,
-    0x1904,
-    0x1904,
-    0x1904,
-    0x1904,
-    0x1904,
-    0x1904,
-    0x1904,
-    0x1904,
-    0x1904,
-    0x1904,
-    0x1904,
-    0x1904,
-    0x1904,
-    0x1904,
+    0x2484,
+    0x1FC0,
+    0x2484,
+    0x2484,
+    0x2484,
+    0x2484,
+    0x2484,
+    0x2484,
+    0x2484,
+    0x2484,
+    0x2484,
+    0x2484,
+    0x2484,
+    0x2484,
+    0x2484,
+    0x2484,
+    0x2484,
+    0x2484,
+    0x2484,
+    0x2484,
+    0x2484,
+    0x2484,
+    0x2484,
+    0x2484,
+    0x2484,
+    0x2484,
+    0x2484,
+    0x2484,
     0x000C,
-    0x342E,
+    0x622E,
     0x000D,
     0x002F,
     0x002F,
-    0x4F80,
-    0x4F80,
-    0x4F80,
-    0x4F80,
-    0x4F80,
-    0x4F80,
-    0x4F80,
-    0x4F80,
-    0x4F80,
-    0x4F80,
-    0x4F80,
-    0x4F80,
-    0x4F80,
-    0x4F80,
-    0x4F80,
-    0x4F80,
-    0x4F80,
-    0x4F80,
-    0x4F80,
-    0x4F80,
-    0x4F80,
-    0x4F80,
-    0x4F80,
-    0x4F80,
-    0x4F80,
-    0x4F80,
-    0x4F80,
-    0x4F80,
-    0x4F80,
-    0x4F80,
-    0x4F80,
-    0x4F80,
-    0x4F80,
-    0x4F80,
-    0x4F80,
-    0x4F80,
-    0x4F80,
-    0x4F80,
-    0x4F80,
-    0x4F80,
-    0x4F80,
-    0x4F80,
-    0x4F80,
-    0x4F80,
-    0x4F80,
-    0x4F80,
-    0x4F80,
-    0x4F80,
-    0x4F80,
-    0x4F80,
-    0x4F80,
-    0x4F80,
-    0x4F80,
-    0x4F80,
-    0x4F80,
-    0x4F80,
-    0x4F80,
-    0x4F80,
-    0x4F80,
-    0x4F80,
-    0x4F80,
-    0x4F80,
-    0x4F80,
-    0x4F80,
-    0x4F80,
-    0x4F80,
-    0x4F80,
-    0x4F80,
-    0x4F80,
-    0x4F80,
-    0x4F80,
-    0x4F80,
-    0x4F80,
-    0x4F80,
-    0x4F80,
-    0x4F80,
-    0x4F80,
-    0x4F80,
-    0x4F80,
-    0x4F80,
-    0x4F80,
-    0x4F80,
-    0x4F80,
-    0x4F80,
-    0x4F80,
-    0x4F80,
-    0x4F80,
-    0x4F80,
-    0x4F80,
-    0x4F80,
-    0x4F80,
-    0x4F80,
-    0x4F80,
-    0x4F80,
-    0x4F80,
-    0x4F80,
-    0x4F80,
-    0x4F80,
-    0x4F80,
-    0x4F80,
-    0x4F80,
-    0x4F80,
-    0x4F80,
-    0x4F80,
-    0x4F80,
-    0x4F80,
-    0x4F80,
-    0x4F80,
-    0x4F80,
-    0x4F80,
-    0x4F80,
-    0x4F80,
-    0x4F80,
-    0x4F80,
-    0x4F80,
-    0x4F80,
-    0x4F80,
-    0x4F80,
-    0x4F80,
-    0x4F80,
-    0x4F80,
-    0x4F80,
-    0x4F80,
-    0x4F80,
-    0x4F80,
-    0x4F80,
-    0x4F80,
-    0x4F80,
+    0x9FC0,
+    0x9FC0,
+    0x9FC0,
+    0x9FC0,
+    0x9FC0,
+    0x9FC0,
+    0x9FC0,
+    0x9FC0,
+    0x9FC0,
+    0x9FC0,
+    0x9FC0,
+    0x9FC0,
+    0x9FC0,
+    0x9FC0,
+    0x9FC0,
+    0x9FC0,
+    0x9FC0,
+    0x9FC0,
+    0x9FC0,
+    0x9FC0,
+    0x9FC0,
+    0x9FC0,
+    0x9FC0,
+    0x9FC0,
+    0x9FC0,
+    0x9FC0,
+    0x9FC0,
+    0x9FC0,
+    0x9FC0,
+    0x9FC0,
+    0x9FC0,
+    0x9FC0,
+    0x9FC0,
+    0x9FC0,
+    0x9FC0,
+    0x9FC0,
+    0x9FC0,
+    0x9FC0,
+    0x9FC0,
+    0x9FC0,
+    0x9FC0,
+    0x9FC0,
+    0x9FC0,
+    0x9FC0,
+    0x9FC0,
+    0x9FC0,
+    0x9FC0,
+    0x9FC0,
+    0x9FC0,
+    0x9FC0,
+    0x9FC0,
+    0x9FC0,
+    0x9FC0,
+    0x9FC0,
+    0x9FC0,
+    0x9FC0,
+    0x9FC0,
+    0x9FC0,
+    0x9FC0,
+    0x9FC0,
+    0x9FC0,
+    0x9FC0,
+    0x9FC0,
+    0x9FC0,
+    0x9FC0,
+    0x9FC0,
+    0x9FC0,
+    0x9FC0,
+    0x9FC0,
+    0x9FC0,
+    0x9FC0,
+    0x9FC0,
+    0x9FC0,
+    0x9FC0,
+    0x9FC0,
+    0x9FC0,
+    0x9FC0,
+    0x9FC0,
+    0x9FC0,
+    0x9FC0,
+    0x9FC0,
+    0x9FC0,
+    0x9FC0,
+    0x9FC0,
+    0x9FC0,
+    0x9FC0,
+    0x9FC0,
+    0x9FC0,
+    0x9FC0,
+    0x9FC0,
+    0x9FC0,
+    0x9FC0,
+    0x9FC0,
+    0x9FC0,
+    0x9FC0,
+    0x9FC0,
+    0x9FC0,
+    0x9FC0,
+    0x9FC0,
+    0x9FC0,
+    0x9FC0,
+    0x9FC0,
+    0x9FC0,
+    0x9FC0,
+    0x9FC0,
+    0x9FC0,
+    0x9FC0,
+    0x9FC0,
+    0x9FC0,
+    0x9FC0,
+    0x9FC0,
+    0x9FC0,
+    0x9FC0,
+    0x9FC0,
+    0x9FC0,
+    0x9FC0,
+    0x9FC0,
+    0x9FC0,
+    0x9FC0,
+    0x9FC0,
+    0x9FC0,
+    0x9FC0,
+    0x9FC0,
+    0x9FC0,
+    0x9FC0,
+    0x9FC0,
+    0x9FC0,
+    0x9FC0,
 ];
 
 // The compiler keeps no data of its own: a loop makes the table once.
@@ -288,25 +293,36 @@ fn is_among(b: u8, low: u64, high: u64) -> bool {
     (b >= 0x80) | ((mask >> (b % 64)) % 2 == 1)
 }
 
-// The edges after `at` in the 64 bytes from there on; none where the text's end is near, or where they would not pay: where a string or the
-// like starts, or where a comment or a longer operator may come next. Called at two places, `edges` stays out of line.
-pub fn find(text: &[u8], at: usize) -> u64
+// The edges after `at` in the 64 bytes from there on; none where the text's end is near, or where they would not pay: at a quote, a backslash
+// or a byte past ASCII, or before a byte past ASCII. After a long token (`shy`) others of its kind may come: then also before a quote,
+// a `$` or a byte that may open a comment. Called at two places, `edges` stays out of line.
+pub fn find(text: &[u8], at: usize, shy: bool) -> u64
     requires { ⌜ at ≤ length (now text) ⌝ }
     ensures { λ r. ⌜ Left (now (text .entry)) at at r ⌝ }
 {
     if text.len() - at < 72 {
         return 0;
     }
-    if is_among(text[at + 1], 0x7400_A496_0000_0000, 0x1000_0001_1000_0001) {
+    if is_among(text[at], 0x0000_0084_0000_0000, 0x0000_0001_1000_0000) {
         return 0;
     }
-    if text[at] == b' ' {
+    if text[at + 1] >= 0x80 {
+        return 0;
+    }
+    if shy {
+        if is_among(text[at + 1], 0x0000_A094_0000_0000, 0x0000_0001_1000_0000) {
+            return 0;
+        }
         return edges(text, at);
     }
-    if is_among(text[at], 0x0000_0094_0000_0000, 0x0000_0001_1000_0000) {
-        return 0;
-    }
     edges(text, at)
+}
+
+// Whether a token is so long that little is left of a block after it.
+pub fn is_long(start: usize, end: usize) -> bool
+    requires { ⌜ start ≤ end ⌝ }
+{
+    end - start >= 48
 }
 
 // The edges that are left after `end`.
@@ -338,29 +354,20 @@ fn is_told(v: u32, u: u32) -> bool
     requires { ⌜ u < 0x2_0000 ⌝ }
     ensures { λ r. ⌜ r ≡ told v u ⌝ }
 {
-    ((v >> 7) >> (u >> 12)) % 2 == 0
+    ((v >> 6) >> (u >> 13)) % 2 == 0
 }
 
-// A token, how many bytes were searched in vain up to its end, and the edges that are left.
+// A token, and the edges that are left after it.
 pub struct Next {
     pub kind: u32,
     pub end: usize,
-    pub vain: usize,
     pub bits: u64,
 }
 
-// The token at `start` by its readers, as `lexer::tokenizer::next_token` has it.
-pub fn read(
-    text: &[u8],
-    start: usize,
-    until: usize,
-    vain: usize,
-    words: &[u64],
-    base: usize,
-    bits: u64,
-) -> Next
-    requires { ⌜ (length (now text) ≤ maxQuerySize) × (start < length (now text)) × Ready (now text) start until vain (now words) × Left (now text) start base bits ⌝ }
-    ensures { λ r. ⌜ Taken (now (text .entry)) start vain base r ⌝ }
+// The token at `start` by its readers, as one number. `until` and `lone` are what the last look ahead gave.
+pub fn read(text: &[u8], start: usize, until: usize, lone: &[u64]) -> u64
+    requires { ⌜ (length (now text) ≤ maxQuerySize) × (start < length (now text)) × Marked (now text) start until (now lone) ⌝ }
+    ensures { λ r. ⌜ Lexes (now (text .entry)) start r ⌝ }
 {
     // Most of what is read is a string.
     if text[start] == b'\'' {
@@ -371,38 +378,39 @@ pub fn read(
             SyntaxKind::StringToken,
             SyntaxKind::ErrorSingleQuoteIsNotClosed,
         );
-        let end = string.end;
-        return Next {
-            kind: string.kind,
-            end,
-            vain,
-            bits: left(base, bits, end),
-        };
+        return join(string.kind, string.end);
     }
-    let token = read_token(text, start, until, vain, words);
-    let end = token.end;
+    if text[start] == b'$' {
+        return read_dollar(text, start, until, lone);
+    }
+    next_token(&text[0..], start)
+}
+
+// What was read, with the edges that are left of a block.
+pub fn taken(lexed: u64, base: usize, bits: u64) -> Next
+    ensures { λ r. ⌜ ((s : List ℕ) (start : ℕ) → length s ≤ maxQuerySize → start < length s → Lexes s start lexed → Left s start base bits → Taken s start base r) ⌝ }
+{
+    let end = end_of(lexed);
     Next {
-        kind: token.kind,
+        kind: kind_of(lexed) % 64,
         end,
-        vain: token.vain,
         bits: left(base, bits, end),
     }
 }
 
 // The token at `start`, or no kind where its first byte and the byte after it do not tell it. `base` and `bits` are a block's, whose edges
 // after `start` are left. It is small, so that every loop has it in line, and its answers go through no memory.
-pub fn plain(leads: &Leads, text: &[u8], start: usize, vain: usize, base: usize, bits: u64) -> Next
+pub fn plain(leads: &Leads, text: &[u8], start: usize, base: usize, bits: u64) -> Next
     requires { ⌜ (now leads ≡ leadTable) × (length (now text) ≤ maxQuerySize) × (start < length (now text)) × Left (now text) start base bits ⌝ }
-    ensures { λ r. ⌜ ((r .kind ≡ NoToken → ⊥) → Taken (now (text .entry)) start vain base r) ⌝ }
+    ensures { λ r. ⌜ ((r .kind ≡ NoToken → ⊥) → Taken (now (text .entry)) start base r) ⌝ }
 {
     if bits != 0 {
         let end = base + u64::trailing_zeros(bits) as usize;
         let v = lead_of(leads, text[start]);
         if is_told(v, lead_of(leads, text[end])) {
             return Next {
-                kind: v % 128,
+                kind: v % 64,
                 end,
-                vain,
                 bits: bits & (bits - 1),
             };
         }
@@ -410,7 +418,6 @@ pub fn plain(leads: &Leads, text: &[u8], start: usize, vain: usize, base: usize,
     Next {
         kind: 0,
         end: start,
-        vain,
         bits: 0,
     }
 }

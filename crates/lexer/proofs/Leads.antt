@@ -10,6 +10,7 @@ use borrow.Author.Tests.{le-ltb, le-leb, lt-ltb, eq-eqb, not-true, not-false}
 use lib.Dec.{leb, ltb, eqb}
 use Rattle.rules.specs.Tables.{whiteSpaceTable}
 use Rattle.rules.specs.Classes.{inRanges, whiteSpace, digit}
+use Rattle.rules.specs.Characters.{doubleQuote, dollar, quote, backQuote}
 use Rattle.rules.specs.Kinds.{NoToken, Whitespace, Comment, Number, BareWord}
 use Rattle.rules.specs.Operators.{single}
 use Rattle.rules.specs.Words.{startsWord, wordCharacter}
@@ -66,6 +67,22 @@ lead-number a e = tells (λ k. eqb k Number) digit refl refl a (eq-eqb (leadKind
 pub lead-no-comment : (a : ℕ) → leadKind a ≡ Comment → ⊥
 unfolding leadKind single
 lead-no-comment a e = clash (tells (λ k. eqb k Comment) (λ a. false) refl refl a (eq-eqb (leadKind a) Comment e) .1) refl
+
+-- where the first byte tells no kind a body follows, or it is past ASCII
+pub lead-none : (a : ℕ) → leadKind a ≡ NoToken → among (dollar ∷ backQuote ∷ doubleQuote ∷ quote ∷ []) a ≡ false → 0x80 ≤ a
+unfolding leadKind single
+lead-none a e m = go (decLt a 0x80)
+  where
+    bodied : ℕ → Bool
+    bodied a = not (eqb (leadKind a) NoToken) || among (dollar ∷ backQuote ∷ doubleQuote ∷ quote ∷ []) a
+
+    by : (not (eqb (leadKind a) NoToken) ≡ true) ⊎ (among (dollar ∷ backQuote ∷ doubleQuote ∷ quote ∷ []) a ≡ true) → 0x80 ≤ a
+    by (inl x) = clash (eq-eqb (leadKind a) NoToken e) (not-true _ x)
+    by (inr x) = clash x m
+
+    go : Dec (a < 0x80) → 0x80 ≤ a
+    go (yes l) = by (or-cases (not (eqb (leadKind a) NoToken)) (among (dollar ∷ backQuote ∷ doubleQuote ∷ quote ∷ []) a) (agree-at bodied (λ a. true) 128 refl a l))
+    go (no l) = omega arith
 
 -- any other kind is an operator's
 pub lead-operates : (a : ℕ) → BareWord < leadKind a → Operates a

@@ -4,6 +4,8 @@ pub mod Ends
 pub mod Matches
 pub mod Leads
 pub mod Shorts
+pub mod Letters
+pub mod FirstBytes
 -- Rules 1 and 3: runs of a class, and the classes by the code's tests.
 pub mod Runs
 pub mod Classes

@@ -46,6 +46,10 @@ module _ (p : ℕ → Bool) (s : List ℕ) (j : ℕ) where
   unfolding run
   run-end h = rw (chars-end s j h)
 
+  -- a character that is not of the class
+  pub char-stop : j < length s → p (charAt (drop j s) .code) ≡ false → run p (chars (drop j s)) ≡ 0
+  char-stop h e = ap (run p) (chars-at s j h) ∙ run-other p (charAt (drop j s)) _ e
+
   module _ (h : j < length s) (l : getD s j 0 < 0x80) where
     ascii-more : p (getD s j 0) ≡ true → run p (chars (drop j s)) ≡ 1 + run p (chars (drop (j + 1) s))
     ascii-more e = ap (run p) (chars-ascii s j h l) ∙ run-cons p (ascii (getD s j 0)) (chars (drop (j + 1) s)) e

@@ -5,12 +5,13 @@ use classes::tables::AlphabeticTable;
 use classes::tables::NumericTable;
 use runs::Class;
 use utf8::byte_at;
+use utf8::is_tail;
 use utf8::unit_at;
 use utf8::unit_code;
 use utf8::unit_len;
 ghost use mathlib.Core.Path.{_≡_};
 ghost use mathlib.Core.Bool.{Bool, true, false, not, cond, _&&_};
-ghost use Prim.Native.Nat.{_+_, _-_, _≤_, _<_};
+ghost use Prim.Native.Nat.{_+_, _-_, _/_, _%_, _^_, _≤_, _<_};
 ghost use lib.ListN.{length, getD, take, drop};
 ghost use lib.Dec.{ltb, eqb};
 ghost use Rattle.rules.specs.Utf8.{charAt, chars};
@@ -28,7 +29,7 @@ ghost use Rattle.rules.specs.Dollars.{tagByte, begins, find, hereDoc, dollarLex
 ghost use Rattle.rules.specs.Numbers.{digits, radixDigit, opening, fraction, marks, signs, exponent, numberWord, goesOn, allChars, closing, number};
 ghost use Rattle.rules.specs.Tokens.{lexeme, afterDotAt};
 ghost use Rattle.rules.specs.Answers.{refusedStep, step};
-ghost use Rattle.lexer.specs.Ends.{endsAt, Told, opened, partAt, operatorAt, AsciiTo, stepped};
+ghost use Rattle.lexer.specs.Ends.{endsAt, joined, Told, opened, partAt, operatorAt, Unruled, AsciiTo, stepped};
 ghost use Rattle.lexer.specs.Steps.{Step};
 ghost use Rattle.lexer.specs.Words.{asciiWord, wordWith, wordMask};
 ghost use Rattle.lexer.specs.Leads.{leadKind, leadRow, Operates};
@@ -75,12 +76,12 @@ pub fn step(text: &[u8], cursor: usize) -> Stepped
         return refused_step(4, cursor);
     }
     let l = next_token(&text[0..], cursor);
-    let end = l.end;
+    let end = end_of(l);
     Stepped {
         number: 0,
         value: end,
         token: Token {
-            kind: l.kind,
+            kind: kind_of(l),
             start: cursor as u32,
             end: end as u32,
         },
@@ -88,32 +89,112 @@ pub fn step(text: &[u8], cursor: usize) -> Stepped
     }
 }
 
-// The token at `start`. Most are told by a few bytes; the others are `read_rest`'s, which is called twice so that it stays out of line.
-pub fn next_token(text: &[u8], start: usize) -> Lexed
-    ensures { λ r. ⌜ r ≡ endsAt start (lexeme (afterDotAt (now (text .entry)) start) (drop start (now (text .entry)))) ⌝ }
+// A lexeme in one number: what comes back from a function out of line goes through memory, and a number doesn't.
+pub fn join(kind: u32, end: usize) -> u64
+    ensures { λ r. ⌜ r ≡ joined (record { kind = kind; end = end }) ⌝ }
+{
+    kind as u64 * 0x1_0000_0000 + end as u64 % 0x1_0000_0000
+}
+
+pub fn kind_of(lexed: u64) -> u32
+    ensures { λ r. ⌜ r ≡ lexed / 2 ^ 32 ⌝ }
+{
+    (lexed / 0x1_0000_0000) as u32
+}
+
+pub fn end_of(lexed: u64) -> usize
+    ensures { λ r. ⌜ r ≡ lexed % 2 ^ 32 ⌝ }
+{
+    (lexed % 0x1_0000_0000) as usize
+}
+
+// The token at `start`, joined. Each reader is called here and in `last_token`: called at two places it stays out of line, and this
+// function is small. It is handed `&text[0..]`, whose pointer and length go in registers.
+pub fn next_token(text: &[u8], start: usize) -> u64
+    ensures { λ r. ⌜ r ≡ joined (endsAt start (lexeme (afterDotAt (now (text .entry)) start) (drop start (now (text .entry))))) ⌝ }
 {
     if start >= text.len() {
-        return Lexed {
-            kind: SyntaxKind::EndOfStream,
-            end: start,
-        };
+        return join(SyntaxKind::EndOfStream, start);
     }
-    if text.len() - start < 3 {
-        return read_rest(&text[0..], start);
+    if text.len() - start < 4 {
+        return last_token(&text[0..], start);
     }
-    // The answers are taken apart, since what is told in short then never goes through memory.
-    let l = read_short(&text[0..], start);
+    let k = first_byte_kind(text[start]);
+    if k == SyntaxKind::BareWord {
+        return join(SyntaxKind::BareWord, read_bare_word(&text[0..], start));
+    }
+    if k == SyntaxKind::Whitespace {
+        if is_short_space(&text[0..], start) {
+            return join(SyntaxKind::Whitespace, start + 1);
+        }
+        return join(SyntaxKind::Whitespace, read_whitespace(&text[0..], start));
+    }
+    if k == SyntaxKind::Number {
+        return number_token(&text[0..], start);
+    }
+    if k == SyntaxKind::NoToken {
+        let n = other_len(&text[0..], start);
+        if n != 0 {
+            return join(SyntaxKind::ErrorToken, start + n);
+        }
+        return other_token(&text[0..], start);
+    }
+    if k < 0x80 {
+        return join(k, start + 1);
+    }
+    let l = fast_operator(&text[0..], start, k - 0x80);
     if l.kind != SyntaxKind::NoToken {
-        return Lexed {
-            kind: l.kind,
-            end: l.end,
-        };
+        return join(l.kind, l.end);
     }
-    let rest = read_rest(&text[0..], start);
-    Lexed {
-        kind: rest.kind,
-        end: rest.end,
+    longer_token(&text[0..], start, k - 0x80)
+}
+
+// The token at `start` near the text's end.
+fn last_token(text: &[u8], start: usize) -> u64
+    requires { ⌜ start < length (now text) ⌝ }
+    ensures { λ r. ⌜ r ≡ joined (endsAt start (lexeme (afterDotAt (now (text .entry)) start) (drop start (now (text .entry))))) ⌝ }
+{
+    let k = first_byte_kind(text[start]);
+    if k == SyntaxKind::BareWord {
+        return join(SyntaxKind::BareWord, read_bare_word(text, start));
     }
+    if k == SyntaxKind::Whitespace {
+        return join(SyntaxKind::Whitespace, read_whitespace(text, start));
+    }
+    if k == SyntaxKind::Number {
+        return number_token(text, start);
+    }
+    if k == SyntaxKind::NoToken {
+        return other_token(text, start);
+    }
+    if k < 0x80 {
+        return join(k, start + 1);
+    }
+    longer_token(text, start, k - 0x80)
+}
+
+fn number_token(text: &[u8], start: usize) -> u64
+    requires { ⌜ (start < length (now text)) × (digit (getD (now text) start 0) ≡ true) ⌝ }
+    ensures { λ r. ⌜ r ≡ joined (endsAt start (number (afterDotAt (now (text .entry)) start) (chars (drop start (now (text .entry)))))) ⌝ }
+{
+    let l = read_number(text, start);
+    join(l.kind, l.end)
+}
+
+fn other_token(text: &[u8], start: usize) -> u64
+    requires { ⌜ (start < length (now text)) × (leadKind (getD (now text) start 0) ≡ NoToken) ⌝ }
+    ensures { λ r. ⌜ r ≡ joined (endsAt start (lexeme (afterDotAt (now (text .entry)) start) (drop start (now (text .entry))))) ⌝ }
+{
+    let l = read_other(text, start);
+    join(l.kind, l.end)
+}
+
+fn longer_token(text: &[u8], start: usize, kind: u32) -> u64
+    requires { ⌜ (start < length (now text)) × Operates (getD (now text) start 0) × (single (getD (now text) start 0) ≡ kind) ⌝ }
+    ensures { λ r. ⌜ r ≡ joined (endsAt start (lexeme (afterDotAt (now (text .entry)) start) (drop start (now (text .entry))))) ⌝ }
+{
+    let l = read_longer(text, start, kind);
+    join(l.kind, l.end)
 }
 
 // What nothing short tells.
@@ -126,32 +207,8 @@ fn untold(start: usize) -> Lexed
     }
 }
 
-// The token at `start`, or no token where another reader must look further.
-fn read_short(text: &[u8], start: usize) -> Lexed
-    requires { ⌜ start + 3 ≤ length (now text) ⌝ }
-    ensures { λ r. ⌜ Told r (endsAt start (lexeme (afterDotAt (now (text .entry)) start) (drop start (now (text .entry))))) ⌝ }
-{
-    let k = lead(text[start]);
-    if k == SyntaxKind::BareWord {
-        return short_word(text, start);
-    }
-    if k == SyntaxKind::Whitespace {
-        return short_space(text, start);
-    }
-    if k == SyntaxKind::Number {
-        return short_number(text, start);
-    }
-    if k < 0x80 {
-        return Lexed {
-            kind: k,
-            end: start + 1,
-        };
-    }
-    short_operator(text, start, k - 0x80)
-}
-
-// Eight kinds that `lead` gives, the first lowest: a match that becomes a table.
-fn lead_row(row: u8) -> u64
+// Eight kinds that `first_byte_kind` gives, the first lowest: a match that becomes a table.
+fn first_byte_row(row: u8) -> u64
     requires { ⌜ row < 32 ⌝ }
     ensures { λ r. ⌜ r ≡ leadRow row ⌝ }
 {
@@ -177,46 +234,47 @@ fn lead_row(row: u8) -> u64
 }
 
 // What a token's first byte tells of its kind.
-fn lead(a: u8) -> u32
+fn first_byte_kind(a: u8) -> u32
     ensures { λ r. ⌜ r ≡ leadKind a ⌝ }
 {
-    ((lead_row(a / 8) >> (a % 8 * 8)) % 256) as u32
+    ((first_byte_row(a / 8) >> (a % 8 * 8)) % 256) as u32
 }
 
-// One byte of white space before a byte of ASCII that is none.
-fn short_space(text: &[u8], start: usize) -> Lexed
-    requires { ⌜ (start + 3 ≤ length (now text)) × (getD (now text) start 0 < 0x80) × (whiteSpace (getD (now text) start 0) ≡ true) ⌝ }
-    ensures { λ r. ⌜ Told r (endsAt start (lexeme (afterDotAt (now (text .entry)) start) (drop start (now (text .entry))))) ⌝ }
+// True only if the white space at `start` is one byte: what follows is of ASCII and no white space, or `other_len` tells it.
+fn is_short_space(text: &[u8], start: usize) -> bool
+    requires { ⌜ (start + 4 ≤ length (now text)) × (getD (now text) start 0 < 0x80) × (whiteSpace (getD (now text) start 0) ≡ true) ⌝ }
+    ensures { λ r. ⌜ (r ≡ true → 1 ≡ run whiteSpace (chars (drop start (now (text .entry))))) ⌝ }
 {
     let b = text[start + 1];
-    if (b < 0x80) & !is_ascii_space(b) {
-        return Lexed {
-            kind: SyntaxKind::Whitespace,
-            end: start + 1,
-        };
+    if b < 0x80 {
+        return !is_ascii_space(b);
     }
-    untold(start)
+    other_len(&text[0..], start + 1) != 0
 }
 
-// A word of ASCII that ends at another byte of ASCII.
-fn short_word(text: &[u8], start: usize) -> Lexed
-    requires { ⌜ (start < length (now text)) × (getD (now text) start 0 < 0x80) × (startsWord (getD (now text) start 0) ≡ true) ⌝ }
-    ensures { λ r. ⌜ Told r (endsAt start (lexeme (afterDotAt (now (text .entry)) start) (drop start (now (text .entry))))) ⌝ }
+// The bytes of a character past ASCII at which no rule starts a token, or 0 where a few bytes do not tell that: letters from U+00C0 on, but
+// not those from U+1680 to U+3000, among which are white space, quotes and the minus.
+fn other_len(text: &[u8], at: usize) -> usize
+    requires { ⌜ at + 3 ≤ length (now text) ⌝ }
+    ensures { λ r. ⌜ ((r ≡ 0 → ⊥) → Unruled (now (text .entry)) at r) ⌝ }
 {
-    let j = skip_words(text, start);
-    if text.len() - j >= 8 {
-        if text[j] < 0x80 {
-            return Lexed {
-                kind: SyntaxKind::BareWord,
-                end: j,
-            };
+    let a = text[at];
+    let b = text[at + 1];
+    if ((0xC3 <= a) & (a <= 0xDF)) & is_tail(b) {
+        return 2;
+    }
+    let c = text[at + 2];
+    if ((0xE1 <= a) & (a <= 0xEC)) & (is_tail(b) & is_tail(c)) {
+        let code = a as u32 % 16 * 4096 + b as u32 % 64 * 64 + c as u32 % 64;
+        if (code < 0x1680) | (0x3000 < code) {
+            return 3;
         }
     }
-    untold(start)
+    0
 }
 
 // One or two characters, where neither a comment nor a third character is meant; `kind` is that of the first alone.
-fn short_operator(text: &[u8], start: usize, kind: u32) -> Lexed
+fn fast_operator(text: &[u8], start: usize, kind: u32) -> Lexed
     requires { ⌜ (start + 3 ≤ length (now text)) × Operates (getD (now text) start 0) × (single (getD (now text) start 0) ≡ kind) ⌝ }
     ensures { λ r. ⌜ Told r (endsAt start (lexeme (afterDotAt (now (text .entry)) start) (drop start (now (text .entry))))) ⌝ }
 {
@@ -239,7 +297,7 @@ fn short_operator(text: &[u8], start: usize, kind: u32) -> Lexed
 }
 
 // A number of one or two runs of digits that ends at a byte of ASCII at which none goes on.
-fn short_number(text: &[u8], start: usize) -> Lexed
+fn fast_number(text: &[u8], start: usize) -> Lexed
     requires { ⌜ (start < length (now text)) × (digit (getD (now text) start 0) ≡ true) ⌝ }
     ensures { λ r. ⌜ Told r (endsAt start (lexeme (afterDotAt (now (text .entry)) start) (drop start (now (text .entry))))) ⌝ }
 {
@@ -248,7 +306,7 @@ fn short_number(text: &[u8], start: usize) -> Lexed
         return untold(start);
     }
     if text[j] != b'.' {
-        return number_to(text[j], start, j);
+        return number_if_ended(text[j], start, j);
     }
     if after_dot(text, start) {
         return untold(start);
@@ -257,11 +315,11 @@ fn short_number(text: &[u8], start: usize) -> Lexed
     if text.len() - i < 8 {
         return untold(start);
     }
-    number_to(text[i], start, i)
+    number_if_ended(text[i], start, i)
 }
 
 // The number up to `end`, where the byte `b` there is of ASCII and no word's.
-fn number_to(b: u8, start: usize, end: usize) -> Lexed
+fn number_if_ended(b: u8, start: usize, end: usize) -> Lexed
     ensures { λ r. ⌜ ((r .kind ≡ NoToken → ⊥) → (r ≡ record { kind = Number; end = «end» }) × (b < 0x80) × (wordCharacter b ≡ false)) ⌝ }
 {
     if (b < 0x80) & !is_word_byte(b, false) {
@@ -309,35 +367,8 @@ fn skip_digits(text: &[u8], at: usize) -> usize
     runs::skip(text, at, false, class)
 }
 
-// The token at `start`, by its first character. Words and white space are tried first, since most tokens are these.
-fn read_rest(text: &[u8], start: usize) -> Lexed
-    requires { ⌜ start < length (now text) ⌝ }
-    ensures { λ r. ⌜ r ≡ endsAt start (lexeme (afterDotAt (now (text .entry)) start) (drop start (now (text .entry)))) ⌝ }
-{
-    let a = text[start];
-    if a >= 0x80 {
-        return read_wide(text, start);
-    }
-    if is_ascii_space(a) {
-        return Lexed {
-            kind: SyntaxKind::Whitespace,
-            end: read_whitespace(text, start),
-        };
-    }
-    if !is_word_byte(a, false) {
-        return read_mark(text, start);
-    }
-    if is_digit(a) {
-        return read_number(text, start);
-    }
-    Lexed {
-        kind: SyntaxKind::BareWord,
-        end: read_bare_word(text, start),
-    }
-}
-
 // A token that starts with a character past ASCII, or with a byte that begins none.
-fn read_wide(text: &[u8], start: usize) -> Lexed
+fn read_non_ascii(text: &[u8], start: usize) -> Lexed
     requires { ⌜ (start < length (now text)) × (0x80 ≤ getD (now text) start 0) ⌝ }
     ensures { λ r. ⌜ r ≡ endsAt start (lexeme (afterDotAt (now (text .entry)) start) (drop start (now (text .entry)))) ⌝ }
 {
@@ -376,20 +407,11 @@ fn read_wide(text: &[u8], start: usize) -> Lexed
     Lexed { kind, end: after }
 }
 
-// A token that starts with a character of ASCII that is neither white space nor a word's.
-fn read_mark(text: &[u8], start: usize) -> Lexed
-    requires { ⌜ (start < length (now text)) × (getD (now text) start 0 < 0x80) × (whiteSpace (getD (now text) start 0) ≡ false) × (wordCharacter (getD (now text) start 0) ≡ false) ⌝ }
+// A token that starts with a quote, a `$`, or a byte past ASCII.
+fn read_other(text: &[u8], start: usize) -> Lexed
+    requires { ⌜ (start < length (now text)) × (leadKind (getD (now text) start 0) ≡ NoToken) ⌝ }
     ensures { λ r. ⌜ r ≡ endsAt start (lexeme (afterDotAt (now (text .entry)) start) (drop start (now (text .entry)))) ⌝ }
 {
-    if two_at(text, start, b'-', b'-') {
-        return Lexed {
-            kind: SyntaxKind::Comment,
-            end: read_single_line_comment(text, start),
-        };
-    }
-    if two_at(text, start, b'/', b'*') {
-        return read_multi_line_comment(text, start + 2);
-    }
     match text[start] {
         b'\'' => read_string(
             text,
@@ -413,41 +435,25 @@ fn read_mark(text: &[u8], start: usize) -> Lexed
             SyntaxKind::ErrorBackQuoteIsNotClosed,
         ),
         b'$' => read_dollar(text, start),
-        _ => read_operator(text, start),
+        _ => read_non_ascii(text, start),
     }
 }
 
-// The kind of one character of ASCII by itself.
-fn single(a: u8) -> u32
-    requires { ⌜ a < 0x80 ⌝ }
-    ensures { λ r. ⌜ r ≡ single a ⌝ }
+// A comment, or the longest of the operators; `kind` is that of the first byte alone.
+fn read_longer(text: &[u8], start: usize, kind: u32) -> Lexed
+    requires { ⌜ (start < length (now text)) × Operates (getD (now text) start 0) × (single (getD (now text) start 0) ≡ kind) ⌝ }
+    ensures { λ r. ⌜ r ≡ endsAt start (lexeme (afterDotAt (now (text .entry)) start) (drop start (now (text .entry)))) ⌝ }
 {
-    match a {
-        b'(' => SyntaxKind::OpeningRoundBracket,
-        b')' => SyntaxKind::ClosingRoundBracket,
-        b'[' => SyntaxKind::OpeningSquareBracket,
-        b']' => SyntaxKind::ClosingSquareBracket,
-        b'{' => SyntaxKind::OpeningCurlyBrace,
-        b'}' => SyntaxKind::ClosingCurlyBrace,
-        b',' => SyntaxKind::Comma,
-        b';' => SyntaxKind::Semicolon,
-        b'.' => SyntaxKind::Dot,
-        b'*' => SyntaxKind::Star,
-        b'+' => SyntaxKind::Plus,
-        b'-' => SyntaxKind::Minus,
-        b'/' => SyntaxKind::Slash,
-        b'%' => SyntaxKind::Percent,
-        b'?' => SyntaxKind::QuestionMark,
-        b':' => SyntaxKind::Colon,
-        b'^' => SyntaxKind::Caret,
-        b'=' => SyntaxKind::Equals,
-        b'!' => SyntaxKind::ErrorSingleExclamationMark,
-        b'<' => SyntaxKind::Less,
-        b'>' => SyntaxKind::Greater,
-        b'|' => SyntaxKind::ErrorSinglePipeMark,
-        b'@' => SyntaxKind::At,
-        _ => SyntaxKind::ErrorToken,
+    if two_at(text, start, b'-', b'-') {
+        return Lexed {
+            kind: SyntaxKind::Comment,
+            end: read_single_line_comment(text, start),
+        };
     }
+    if two_at(text, start, b'/', b'*') {
+        return read_multi_line_comment(text, start + 2);
+    }
+    read_operator(text, start, kind)
 }
 
 // The kind where the test holds, or 0.
@@ -485,9 +491,9 @@ fn is_spaceship(a: u8, b: u8, c: u8) -> bool
     ((a == b'<') & (b == b'=')) & (c == b'>') | ((a == b'=') & (b == b'>')) & (c == b'<')
 }
 
-// The longest of the choices at a character of ASCII.
-fn read_operator(text: &[u8], start: usize) -> Lexed
-    requires { ⌜ (start < length (now text)) × (getD (now text) start 0 < 0x80) ⌝ }
+// The longest of the choices at a character of ASCII; `kind` is that of the first byte alone.
+fn read_operator(text: &[u8], start: usize, kind: u32) -> Lexed
+    requires { ⌜ (start < length (now text)) × (getD (now text) start 0 < 0x80) × (single (getD (now text) start 0) ≡ kind) ⌝ }
     ensures { λ r. ⌜ r ≡ endsAt start (operatorAt (chars (drop start (now (text .entry))))) ⌝ }
 {
     let a = text[start];
@@ -507,7 +513,7 @@ fn read_operator(text: &[u8], start: usize) -> Lexed
         };
     }
     Lexed {
-        kind: single(a),
+        kind,
         end: start + 1,
     }
 }
@@ -578,6 +584,9 @@ fn skip_to(text: &[u8], at: usize, a: u8) -> usize
     requires { ⌜ (at ≤ length (now text)) × (a < 0x80) ⌝ }
     ensures { λ r. ⌜ Skips (λ x. not (eqb x a)) (now (text .entry)) at r ⌝ }
 {
+    if byte_at(text, at) == a {
+        return at;
+    }
     let k = Class {
         a,
         b: a + 1,
@@ -627,6 +636,10 @@ fn skip_to_either(text: &[u8], at: usize, a: u8, b: u8) -> usize
     requires { ⌜ (at ≤ length (now text)) × (a < 0x80) × (b < 0x80) × (a ≡ b → ⊥) ⌝ }
     ensures { λ r. ⌜ Skips (λ x. not (eqb x a) && not (eqb x b)) (now (text .entry)) at r ⌝ }
 {
+    let x = byte_at(text, at);
+    if (x == a) | (x == b) {
+        return at;
+    }
     let k = Class {
         a,
         b: a + 1,
@@ -776,6 +789,10 @@ fn read_number(text: &[u8], start: usize) -> Lexed
     requires { ⌜ (start < length (now text)) × (digit (getD (now text) start 0) ≡ true) ⌝ }
     ensures { λ r. ⌜ r ≡ endsAt start (number (afterDotAt (now (text .entry)) start) (chars (drop start (now (text .entry))))) ⌝ }
 {
+    let l = fast_number(text, start);
+    if l.kind != SyntaxKind::NoToken {
+        return l;
+    }
     if after_dot(text, start) {
         return read_identifier_starting_with_number(text, start, read_digits(text, start + 1));
     }
@@ -888,7 +905,7 @@ fn read_identifier_starting_with_number(text: &[u8], start: usize, at: usize) ->
     ensures { λ r. ⌜ r ≡ endsAt start (closing (at - start) (chars (drop start (now (text .entry))))) ⌝ }
 {
     if at < text.len() {
-        let l = number_to(text[at], start, at);
+        let l = number_if_ended(text[at], start, at);
         if l.kind != SyntaxKind::NoToken {
             return l;
         }
@@ -1198,10 +1215,14 @@ fn read_word(text: &[u8], at: usize, dollar: bool) -> usize
 }
 
 fn read_bare_word(text: &[u8], at: usize) -> usize
+    requires { ⌜ at ≤ length (now text) ⌝ }
     ensures { λ r. ⌜ r ≡ at + run wordCharacter (chars (drop at (now (text .entry)))) ⌝ }
 {
-    if at < text.len() {
-        return read_word(text, skip_words(text, at), false);
+    let j = skip_words(text, at);
+    if text.len() - j >= 8 {
+        if text[j] < 0x80 {
+            return j;
+        }
     }
-    read_word(text, at, false)
+    read_word(text, j, false)
 }

@@ -1,3 +1,4 @@
 pub mod Choices
 pub mod Plans
 pub mod Picks
+pub mod Walks

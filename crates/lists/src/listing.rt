@@ -1,12 +1,14 @@
 // The listings: all tokens of a text, or those that start before a position, as a packed list in lent bytes.
 use crate::packed::put_token;
-use ahead::PATIENCE;
-use ahead::look;
-use edges::Next;
+use ahead::LOOK_AFTER;
+use ahead::look_ahead;
+use ahead::wasted_by;
 use edges::find;
+use edges::is_long;
 use edges::leads;
 use edges::plain;
 use edges::read;
+use edges::taken;
 use lexer::syntax_kind::SyntaxKind;
 use rules::answer::Answer;
 use rules::max_query_size;
@@ -14,14 +16,16 @@ use rules::token_bytes;
 use utf8::valid_length;
 ghost use mathlib.Core.Path.{_≡_};
 ghost use mathlib.Core.Bool.{cond};
-ghost use Prim.Native.Nat.{_-_, _*_, _≤_, _<_, _^_};
+ghost use Prim.Native.Nat.{_+_, _-_, _*_, _≤_, _<_, _^_};
 ghost use lib.ListN.{length};
 ghost use Rattle.rules.specs.Limits.{maxQuerySize, tokenBytes};
 ghost use Rattle.rules.specs.Listing.{full, lean, pack};
 ghost use Rattle.rules.specs.Answers.{Done, TooLong, filled, stored, tooLongList, listing, listingUpTo};
 ghost use Rattle.rules.specs.Records.{wholePlan, upToPlan, packedBy};
 ghost use Rattle.rules.specs.Cases.{written};
+ghost use Rattle.ahead.specs.Marks.{Marked};
 ghost use Rattle.lists.specs.Choices.{keeps, chosen, chosenPlan};
+ghost use Rattle.lists.specs.Walks.{CountedOn, StoredOn};
 ghost use Rattle.lists.specs.Plans.{planOf, Follows, Planned};
 
 // What a listing is asked for. `tokenize` does not look at the position. Each setter hands the settings back changed, so calls chain.
@@ -93,46 +97,75 @@ impl Choice {
     }
 }
 
+// How far a text is counted: the tokens that are kept before a cursor.
+pub struct Counted {
+    pub cursor: usize,
+    pub tokens: usize,
+}
+
+// Counts on to the end, or until it pays to look ahead.
+fn count_some(text: &[u8], choice: Choice, from: Counted, until: usize, lone: &[u64]) -> Counted
+    requires { ⌜ (length (now text) ≤ maxQuerySize) × (choice .position ≤ length (now text)) × (from .cursor ≤ length (now text)) × (from .tokens ≤ from .cursor) × Marked (now text) (from .cursor) until (now lone) ⌝ }
+    ensures { λ r. ⌜ CountedOn choice (now (text .entry)) from r ⌝ }
+{
+    let leads = leads();
+    let mut stop = choice.position;
+    let mut wasted = 0;
+    let mut shy = false;
+    let mut base = 0;
+    let mut bits = 0;
+    let mut tokens = from.tokens;
+    let mut cursor = from.cursor;
+    while cursor < stop {
+        let start = cursor;
+        if bits == 0 {
+            base = start;
+            bits = find(text, start, shy);
+        }
+        let mut token = plain(&leads, text, start, base, bits);
+        if token.kind == SyntaxKind::NoToken {
+            let lexed = read(text, start, until, lone);
+            token = taken(lexed, base, bits);
+            shy = is_long(start, token.end);
+            wasted += wasted_by(lexed, text.len());
+            if wasted >= LOOK_AFTER {
+                stop = 0;
+            }
+        }
+        cursor = token.end;
+        bits = token.bits;
+        if choice.keeps(token.kind) {
+            tokens += 1;
+        }
+    }
+    Counted { cursor, tokens }
+}
+
+// Looks ahead, and counts on.
+fn count_more(text: &[u8], choice: Choice, from: Counted) -> Counted
+    requires { ⌜ (length (now text) ≤ maxQuerySize) × (choice .position ≤ length (now text)) × (from .cursor ≤ length (now text)) × (from .tokens ≤ from .cursor) ⌝ }
+    ensures { λ r. ⌜ CountedOn choice (now (text .entry)) from r ⌝ }
+{
+    let mut lone = [0u64; 4096];
+    let until = look_ahead(text, from.cursor, &mut lone);
+    count_some(text, choice, from, until, &lone)
+}
+
 // The list's length.
 pub fn count(text: &[u8], choice: Choice) -> usize
     requires { ⌜ (length (now text) ≤ maxQuerySize) × (choice .position ≤ length (now text)) ⌝ }
     ensures { λ r. ⌜ r ≡ length (chosen choice (now (text .entry)) 0) ⌝ }
 {
-    let leads = leads();
-    let mut words = [0u64; 256];
-    let mut base = 0;
-    let mut bits = 0;
-    let mut until = 0;
-    let mut vain = 0;
-    let mut n = 0;
-    let mut cursor = 0;
-    while cursor < choice.position {
-        if bits == 0 {
-            base = cursor;
-            bits = find(text, cursor);
-        }
-        let mut token = plain(&leads, text, cursor, vain, base, bits);
-        if token.kind == SyntaxKind::NoToken {
-            let other = read(text, cursor, until, vain, &words, base, bits);
-            token = Next {
-                kind: other.kind,
-                end: other.end,
-                vain: other.vain,
-                bits: other.bits,
-            };
-        }
-        cursor = token.end;
-        vain = token.vain;
-        bits = token.bits;
-        if vain >= PATIENCE {
-            until = look(text, cursor, &mut words);
-            vain = 0;
-        }
-        if choice.keeps(token.kind) {
-            n += 1;
-        }
+    let none = Counted {
+        cursor: 0,
+        tokens: 0,
+    };
+    let no_bits = [0u64; 1];
+    let mut at = count_some(text, choice, none, 0, &no_bits);
+    while at.cursor < choice.position {
+        at = count_more(text, choice, at);
     }
-    n
+    at.tokens
 }
 
 // The list's length, or more where it fits all the same: a token has at least one byte, so with room for a token a byte nothing is counted.
@@ -147,47 +180,82 @@ fn needed(text: &[u8], choice: Choice, room: usize) -> usize
     count(text, choice)
 }
 
+// How far a list is stored: the bytes of the tokens that are kept before a cursor.
+pub struct Stored {
+    pub cursor: usize,
+    pub bytes: usize,
+}
+
+// Stores on to the end, or until it pays to look ahead.
+fn fill_some(
+    text: &[u8],
+    choice: Choice,
+    list: &mut [u8],
+    from: Stored,
+    until: usize,
+    lone: &[u64],
+) -> Stored
+    requires { ⌜ (length (now text) ≤ maxQuerySize) × (choice .position ≤ length (now text)) × (from .cursor ≤ length (now text)) × (from .bytes + length (chosen choice (now text) (from .cursor)) * tokenBytes ≤ length (now list)) × Marked (now text) (from .cursor) until (now lone) ⌝ }
+    ensures { λ r. ⌜ StoredOn choice (now (text .entry)) from (now (list .entry)) r (now (list .exit)) ⌝ }
+{
+    let leads = leads();
+    let mut stop = choice.position;
+    let mut wasted = 0;
+    let mut shy = false;
+    let mut base = 0;
+    let mut bits = 0;
+    let mut bytes = from.bytes;
+    let mut cursor = from.cursor;
+    while cursor < stop {
+        let start = cursor;
+        if bits == 0 {
+            base = start;
+            bits = find(text, start, shy);
+        }
+        let mut token = plain(&leads, text, start, base, bits);
+        if token.kind == SyntaxKind::NoToken {
+            let lexed = read(text, start, until, lone);
+            token = taken(lexed, base, bits);
+            shy = is_long(start, token.end);
+            wasted += wasted_by(lexed, text.len());
+            if wasted >= LOOK_AFTER {
+                stop = 0;
+            }
+        }
+        cursor = token.end;
+        bits = token.bits;
+        if choice.keeps(token.kind) {
+            bytes = put_token(list, bytes, token.kind, start as u32, cursor as u32);
+        }
+    }
+    Stored { cursor, bytes }
+}
+
+// Looks ahead, and stores on.
+fn fill_more(text: &[u8], choice: Choice, list: &mut [u8], from: Stored) -> Stored
+    requires { ⌜ (length (now text) ≤ maxQuerySize) × (choice .position ≤ length (now text)) × (from .cursor ≤ length (now text)) × (from .bytes + length (chosen choice (now text) (from .cursor)) * tokenBytes ≤ length (now list)) ⌝ }
+    ensures { λ r. ⌜ StoredOn choice (now (text .entry)) from (now (list .entry)) r (now (list .exit)) ⌝ }
+{
+    let mut lone = [0u64; 4096];
+    let until = look_ahead(text, from.cursor, &mut lone);
+    fill_some(text, choice, list, from, until, &lone)
+}
+
 // Stores the list, for which there is room, and answers its length.
 fn fill(text: &[u8], choice: Choice, list: &mut [u8]) -> usize
     requires { ⌜ (length (now text) ≤ maxQuerySize) × (choice .position ≤ length (now text)) × (length (chosen choice (now text) 0) * tokenBytes ≤ length (now list)) ⌝ }
     ensures { λ r. ⌜ (let ts = chosen choice (now (text .entry)) 0 in (r ≡ length ts) × (now (list .exit) ≡ filled (pack ts) (now (list .entry)))) ⌝ }
 {
-    let leads = leads();
-    let mut words = [0u64; 256];
-    let mut base = 0;
-    let mut bits = 0;
-    let mut until = 0;
-    let mut vain = 0;
-    let mut at = 0;
-    let mut cursor = 0;
-    while cursor < choice.position {
-        let start = cursor;
-        if bits == 0 {
-            base = start;
-            bits = find(text, start);
-        }
-        let mut token = plain(&leads, text, start, vain, base, bits);
-        if token.kind == SyntaxKind::NoToken {
-            let other = read(text, start, until, vain, &words, base, bits);
-            token = Next {
-                kind: other.kind,
-                end: other.end,
-                vain: other.vain,
-                bits: other.bits,
-            };
-        }
-        cursor = token.end;
-        vain = token.vain;
-        bits = token.bits;
-        if vain >= PATIENCE {
-            until = look(text, cursor, &mut words);
-            vain = 0;
-        }
-        if choice.keeps(token.kind) {
-            at = put_token(list, at, token.kind, start as u32, cursor as u32);
-        }
+    let none = Stored {
+        cursor: 0,
+        bytes: 0,
+    };
+    let no_bits = [0u64; 1];
+    let mut at = fill_some(text, choice, list, none, 0, &no_bits);
+    while at.cursor < choice.position {
+        at = fill_more(text, choice, list, at);
     }
-    at / token_bytes()
+    at.bytes / token_bytes()
 }
 
 // Stores the list, unless the room is too small.

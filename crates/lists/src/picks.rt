@@ -4,6 +4,8 @@ use crate::listing::Plan;
 use crate::listing::count;
 use lexer::syntax_kind::SyntaxKind;
 use lexer::token::Token;
+use lexer::tokenizer::end_of;
+use lexer::tokenizer::kind_of;
 use lexer::tokenizer::next_token;
 use rules::answer::Answer;
 ghost use mathlib.Core.Path.{_≡_};
@@ -72,12 +74,13 @@ fn pick_chosen(text: &[u8], choice: Choice, cursor: usize) -> Picked
 {
     let mut start = cursor;
     loop {
-        let found = next_token(text, start);
-        let end = found.end;
-        if choice.keeps(found.kind) {
+        let found = next_token(&text[0..], start);
+        let kind = kind_of(found);
+        let end = end_of(found);
+        if choice.keeps(kind) {
             return Picked {
                 token: Token {
-                    kind: found.kind,
+                    kind,
                     start: start as u32,
                     end: end as u32,
                 },

@@ -17,6 +17,7 @@ use Rattle.lexer.specs.declared.tokenizer.Lexed.{Lexed}
 use Rattle.lexer.specs.Ends.{endsAt}
 use Rattle.lexer.proofs.Ends.{next-is, next-lies}
 use Rattle.masking.specs.Spans.{bytesOf, Span}
+use Rattle.masking.specs.Walks.{Copied}
 use Rattle.masking.proofs.Spans.{span-length}
 use Rattle.masking.proofs.Kept.{keeps-all}
 use Rattle.masking.proofs.Hiding.{hide-none, hide-inside}
@@ -43,12 +44,6 @@ filled-over x y buffer e = ap (λ (l : List ℕ). x ++ l) (drop-at y (drop (leng
 
 pub filled-room : (x buffer : List ℕ) → buffer ≡ filled x buffer → length x ≤ length buffer
 filled-room x buffer e = let l = ap length e ∙ length-append x (drop (length x) buffer) in omega arith
-
-pub record Copied (s copy₀ copy : List ℕ) (i : ℕ) : Type 0 where
-  pub done : List ℕ
-  pub size : length done ≡ i
-  pub bytes : copy ≡ done ++ (drop i s ++ drop (length s) copy₀)
-  pub all : done ++ maskTokens (tokensFrom s i) (drop i s) ≡ masked s
 
 module _ (s copy₀ : List ℕ) (room : length s ≤ length copy₀) where
   pub copied-none : copy₀ ≡ filled s copy₀ → Copied s copy₀ copy₀ 0

@@ -2,3 +2,4 @@
 pub mod Spans
 pub mod Placed
 pub mod Feeds
+pub mod Walks

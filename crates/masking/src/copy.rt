@@ -1,12 +1,14 @@
 // The masked copy: the text with each hidden byte replaced, in lent bytes. It has the text's tokens.
 use crate::parts::hides;
-use ahead::PATIENCE;
-use ahead::look;
-use edges::Next;
+use ahead::LOOK_AFTER;
+use ahead::look_ahead;
+use ahead::wasted_by;
 use edges::find;
+use edges::is_long;
 use edges::leads;
 use edges::plain;
 use edges::read;
+use edges::taken;
 use lexer::syntax_kind::SyntaxKind;
 use rules::answer::Answer;
 use rules::mask_byte;
@@ -20,7 +22,9 @@ ghost use Rattle.rules.specs.Masking.{quoteWidth, tagWidth, front, back, hide, 
 ghost use Rattle.rules.specs.Limits.{maxQuerySize};
 ghost use Rattle.rules.specs.Answers.{filled, maskedCopy};
 ghost use Rattle.rules.specs.Cases.{written};
+ghost use Rattle.ahead.specs.Marks.{Marked};
 ghost use Rattle.masking.specs.Spans.{bytesOf, Span, Hiding};
+ghost use Rattle.masking.specs.Walks.{MaskedOn};
 
 // The bytes of the quote at `start`.
 fn quote_width(text: &[u8], start: usize) -> usize
@@ -115,44 +119,62 @@ fn copy_text(text: &[u8], copy: &mut [u8])
     }
 }
 
+// Masks on from a cursor to the end, or until it pays to look ahead, and gives the cursor then.
+fn mask_some(text: &[u8], copy: &mut [u8], from: usize, until: usize, lone: &[u64]) -> usize
+    requires { ⌜ (length (now text) ≤ maxQuerySize) × (from ≤ length (now text)) × (length (now text) ≤ length (now copy)) × Marked (now text) from until (now lone) ⌝ }
+    ensures { λ r. ⌜ MaskedOn (now (text .entry)) from (now (copy .entry)) r (now (copy .exit)) ⌝ }
+{
+    let leads = leads();
+    let mut stop = text.len();
+    let mut wasted = 0;
+    let mut shy = false;
+    let mut base = 0;
+    let mut bits = 0;
+    let mut cursor = from;
+    while cursor < stop {
+        let start = cursor;
+        if bits == 0 {
+            base = start;
+            bits = find(text, start, shy);
+        }
+        let mut token = plain(&leads, text, start, base, bits);
+        if token.kind == SyntaxKind::NoToken {
+            let lexed = read(text, start, until, lone);
+            token = taken(lexed, base, bits);
+            shy = is_long(start, token.end);
+            wasted += wasted_by(lexed, text.len());
+            if wasted >= LOOK_AFTER {
+                stop = 0;
+            }
+        }
+        cursor = token.end;
+        bits = token.bits;
+        if hides(token.kind) {
+            mask_token(text, copy, token.kind, start, cursor);
+        }
+    }
+    cursor
+}
+
+// Looks ahead, and masks on.
+fn mask_more(text: &[u8], copy: &mut [u8], from: usize) -> usize
+    requires { ⌜ (length (now text) ≤ maxQuerySize) × (from ≤ length (now text)) × (length (now text) ≤ length (now copy)) ⌝ }
+    ensures { λ r. ⌜ MaskedOn (now (text .entry)) from (now (copy .entry)) r (now (copy .exit)) ⌝ }
+{
+    let mut lone = [0u64; 4096];
+    let until = look_ahead(text, from, &mut lone);
+    mask_some(text, copy, from, until, &lone)
+}
+
 // Masks the tokens of a text in a copy that begins with it.
 fn mask_tokens(text: &[u8], copy: &mut [u8])
     requires { ⌜ (length (now text) ≤ maxQuerySize) × (now copy ≡ filled (now text) (now copy)) ⌝ }
     ensures { λ r. ⌜ now (copy .exit) ≡ filled (masked (now (text .entry))) (now (copy .entry)) ⌝ }
 {
-    let leads = leads();
-    let mut words = [0u64; 256];
-    let mut base = 0;
-    let mut bits = 0;
-    let mut until = 0;
-    let mut vain = 0;
-    let mut cursor = 0;
-    while cursor < text.len() {
-        let start = cursor;
-        if bits == 0 {
-            base = start;
-            bits = find(text, start);
-        }
-        let mut token = plain(&leads, text, start, vain, base, bits);
-        if token.kind == SyntaxKind::NoToken {
-            let other = read(text, start, until, vain, &words, base, bits);
-            token = Next {
-                kind: other.kind,
-                end: other.end,
-                vain: other.vain,
-                bits: other.bits,
-            };
-        }
-        cursor = token.end;
-        vain = token.vain;
-        bits = token.bits;
-        if vain >= PATIENCE {
-            until = look(text, cursor, &mut words);
-            vain = 0;
-        }
-        if hides(token.kind) {
-            mask_token(text, copy, token.kind, start, cursor);
-        }
+    let no_bits = [0u64; 1];
+    let mut at = mask_some(text, copy, 0, 0, &no_bits);
+    while at < text.len() {
+        at = mask_more(text, copy, at);
     }
 }
 

@@ -19,7 +19,7 @@ pub fn byte_at(s: &[u8], i: usize) -> u8
     if i < s.len() { s[i] } else { 0 }
 }
 
-fn is_tail(b: u8) -> bool
+pub fn is_tail(b: u8) -> bool
     ensures { λ r. ⌜ r ≡ utf8Tail b ⌝ }
 {
     (0x80 <= b) & (b <= 0xBF)

@@ -30,9 +30,9 @@ returns-4 c e d =
     let k = t .before .before in
     let g = k .before .before .before .before .before .before in
     let z = sym (t .before .byte-at2 .ensures) ∙ t .if2 .left in
-    not-again (now (g .args .text)) (g .args .at) (k .key-at .result .end) (k .key-at .ensures .1) d z (g .args .from) (now (g .args .tree)) (now (g .args .last)) (g .pre .2) (g .pre .1)
+    not-again (now (g .args .text)) (g .args .at) (k .key-at .result .end) (k .key-at .ensures .1) d z (g .args .from) (now (g .args .table)) (now (g .args .last)) (g .pre .2) (g .pre .1)
     (rw (k .key-at .ensures .0) at (n .if3 .left))
-    (rw (k .key-at .ensures .0) at (leb-true (getD (now (g .args .last)) (k .key-at .result .node) 0) (k .key-at .result .end) e))
+    (rw (k .key-at .ensures .0) at (leb-true (getD (now (g .args .last)) (k .key-at .result .slot) 0) (k .key-at .result .end) e))
 
 pub is-lone-spec : {M : Type 1} → statement M
 is-lone-spec =
@@ -47,5 +47,5 @@ is-lone-spec =
     (λ c e d. clash e refl)
     (λ c. search needs)
     (λ c. search needs)
-    (λ c. omega (arith, c .shared-slice-known4 .given (c .before .before .before .before .key-at .result .node)))
+    (λ c. omega (arith, c .shared-slice-known4 .given (c .before .before .before .before .key-at .result .slot)))
     returns-4)

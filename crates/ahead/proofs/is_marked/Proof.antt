@@ -1,7 +1,5 @@
-use Prim.Native.Nat.{_*_}
 use borrow.Author.Needs.{needs}
 use borrow.Author.Tests.{lt-ltb, le-ltb, le-leb, lt-leb}
-use Rattle.ahead.specs.Marks.{windowWords}
 use Rattle.ahead.proofs.is_marked.Statement.{statement}
 use Rattle.ahead.proofs.is_marked.Tie as tie
 
@@ -10,8 +8,8 @@ is-marked-spec =
     tie.close
     (tie.spec
     (λ c. rw (lt-ltb _ _ (c .if1 .taken)))
-    (λ c. rw (le-ltb _ _ (c .before .if1 .left), le-leb (windowWords * 64) _ (c .if2 .taken)))
+    (λ c. rw (le-ltb _ _ (c .before .if1 .left), le-leb _ _ (c .if2 .taken)))
     (λ c. search needs)
     (λ c. search needs)
     (λ c. search needs)
-    (λ c. rw (le-ltb _ _ (c .before .before .if1 .left), lt-leb (windowWords * 64) _ (c .before .if2 .left))))
+    (λ c. rw (le-ltb _ _ (c .before .before .if1 .left), lt-leb _ _ (c .before .if2 .left))))

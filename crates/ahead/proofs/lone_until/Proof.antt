@@ -11,10 +11,10 @@ use Rattle.ahead.proofs.lone_until.Statement.{statement}
 use Rattle.ahead.proofs.lone_until.Tie as tie
 
 abbrev Inv-loop : tie.InvT-loop
-Inv-loop text from tree last i₀ i = (from ≤ i) × (i ≤ length text) × LoneUntil text from i
+Inv-loop text from table last i₀ i = (from ≤ i) × (i ≤ length text) × LoneUntil text from i
 
 abbrev μ-loop : tie.MeasureT-loop
-μ-loop text from tree last i₀ i = length text - i
+μ-loop text from table last i₀ i = length text - i
 
 -- this byte is no `$`, or one that begins nothing
 here : (c : tie.Joined1 Inv-loop μ-loop) → let l = c .before .before .before in Lone (now (l .before .before .before .before .args .text)) (l .loop .i)

@@ -12,10 +12,10 @@ use Rattle.ahead.proofs.word_at.Statement.{statement}
 use Rattle.ahead.proofs.word_at.Tie as tie
 
 abbrev Inv-loop : tie.InvT-loop
-Inv-loop text at from tree last word₀ k₀ word k = (k ≤ 64) × (word < 2 ^ (64 - k)) × ((j : ℕ) → bit word j ≡ true → Lone text (at + k + j))
+Inv-loop text at from table last word₀ k₀ word k = (k ≤ 64) × (word < 2 ^ (64 - k)) × ((j : ℕ) → bit word j ≡ true → Lone text (at + k + j))
 
 abbrev μ-loop : tie.MeasureT-loop
-μ-loop text at from tree last word₀ k₀ word k = k
+μ-loop text at from table last word₀ k₀ word k = k
 
 -- the bit that is added
 added : (c : tie.Joined1 Inv-loop μ-loop) → let l = c .before .before .before in let a = l .before .before .before .before .args in (c .if1 .word ≤ 1) × (c .if1 .word ≡ 1 → Lone (now (a .text)) (a .at + (l .loop .k - 1)))

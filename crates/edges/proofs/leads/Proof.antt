@@ -2,12 +2,12 @@
 use mathlib.Core.Path.{refl}
 use Rattle.rules.specs.Operators.{single}
 use Rattle.lexer.specs.Leads.{leadKind}
-use Rattle.edges.specs.Leads.{after, minds, lead, leadsFrom, leadTable}
+use Rattle.edges.specs.Leads.{after, minds, plainKind, lead, leadsFrom, leadTable}
 use Rattle.edges.proofs.leads.Statement.{statement}
 use Rattle.edges.proofs.leads.Tie as tie
 
 returns : tie.Need-returns
-unfolding leadTable leadsFrom lead minds after leadKind single
+unfolding leadTable leadsFrom lead minds after plainKind leadKind single
 returns c = refl
 
 pub leads-spec : {M : Type 1} → statement M

@@ -44,9 +44,8 @@ returns c = λ n.
     let s = now (g .args .text) in
     let a = g .args in
     let t = sym (ap₂ told (v .lead-of .ensures) (o .lead-of2 .ensures)) ∙ sym (c .before .is-told .ensures) ∙ c .if2 .taken in (
-      ap {B = Lexed} (λ (n : ℕ). record { kind = n % 128; end = a .base + trailingZeros 64 (a .bits) }) (v .lead-of .ensures)
+      ap {B = Lexed} (λ (n : ℕ). record { kind = n % 64; end = a .base + trailingZeros 64 (a .bits) }) (v .lead-of .ensures)
           ∙ token s (a .start) (a .base) (a .bits) (l .if1 .taken) (g .pre .3) (λ n. omega (arith, k .shared-slice-known3 .given n)) (g .pre .2) t,
-      omega arith,
       next s (a .start) (a .base) (a .bits) (l .if1 .taken) (g .pre .3),
     )
 

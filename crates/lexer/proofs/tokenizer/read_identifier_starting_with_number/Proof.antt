@@ -12,7 +12,7 @@ returns c =
     let g = c .before .before .before .before in
     let st = g .before .before in
     let s = now (st .args .text) in
-    let b = c .before .before .number-to .ensures (c .if2 .taken) in
+    let b = c .before .before .number-if-ended .ensures (c .if2 .taken) in
     b .0 ∙ stops s (st .args .start) (st .args .at) (st .pre) (sym (no-more s (st .args .at) (g .if1 .taken) (b .1) (b .2))) refl
 
 pub read-identifier-starting-with-number-spec : {M : Type 1} → statement M

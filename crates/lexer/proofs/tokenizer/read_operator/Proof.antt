@@ -48,8 +48,8 @@ returns-2 c =
 
 returns-3 : tie.Need-returns-3
 returns-3 c =
-    let t = c .before .before .before .before in
-    lexed-is (i t) (reads t ∙ operator-single (s t) (i t) (head t) refl (sym (ship t) ∙ c .before .before .before .if1 .left) _ (both (c .before .before)) (c .before .if2 .left) ∙ ap (λ (k : ℕ). is k 1) (sym (c .single .ensures))) _ refl
+    let t = c .before .before .before in
+    lexed-is (i t) (reads t ∙ operator-single (s t) (i t) (head t) refl (sym (ship t) ∙ c .before .before .if1 .left) _ (both (c .before)) (c .if2 .left) ∙ ap (λ (k : ℕ). is k 1) (st t .pre .2)) _ refl
 
 pub read-operator-spec : {M : Type 1} → statement M
 read-operator-spec =
@@ -66,6 +66,5 @@ read-operator-spec =
     (λ c κs. search needs)
     (λ c. search needs)
     returns-2
-    (λ c κs. search needs)
     (λ c. search needs)
     returns-3)

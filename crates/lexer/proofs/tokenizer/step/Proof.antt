@@ -1,18 +1,18 @@
 use Prim.Native.Nat.{ℕ, _≤_}
 use native.Mathlib.Omega.{arith}
 use borrow.Author.Needs.{needs}
-use mathlib.Core.Path.{sym, ap, _∙_}
+use mathlib.Core.Path.{_≡_, sym, ap, ap₂, _∙_}
 use mathlib.Core.List.{List}
 use denote.Ref.{now}
-use lib.ListN.{length}
+use lib.ListN.{length, drop}
 use Rattle.rules.specs.Limits.{maxQuerySize}
-use Rattle.rules.specs.Tokens.{tokenAt}
+use Rattle.rules.specs.Tokens.{tokenAt, lexeme, afterDotAt}
 use Rattle.rules.proofs.Stepping.{step-too-long, step-beyond, step-done, step-ends}
-use Rattle.lexer.specs.Ends.{stepped}
+use Rattle.lexer.specs.Ends.{endsAt, joined, stepped}
 use Rattle.rules.specs.Answers.{Done}
 use Rattle.lexer.specs.declared.tokenizer.Lexed.{Lexed}
 use Rattle.lexer.specs.declared.tokenizer.Stepped.{Stepped}
-use Rattle.lexer.proofs.Ends.{sliced-token}
+use Rattle.lexer.proofs.Ends.{split, sliced-token}
 use Rattle.lexer.proofs.tokenizer.step.Statement.{statement}
 use Rattle.lexer.proofs.tokenizer.step.Tie as tie
 
@@ -36,20 +36,33 @@ returns-2 c =
     let e = c .before .before in
     c .refused-step2 .ensures ∙ ap stepped (sym (step-beyond (s e) (i e) (fits e) (c .before .if2 .taken)))
 
-cast-t12 : tie.Need-cast-t12
-cast-t12 c =
-    let e = c .before .before .before in
-    let r = ap (λ (l : Lexed). l .end) (c .next-token .ensures ∙ sliced-token (i e) (s e)) in
-    omega (arith, fits e, step-ends (s e) (i e) (c .before .before .if2 .left))
+-- the token there, taken out of its number
+module _ (c : tie.After-kind-of) where
+  abbrev e : tie.Else1
+  e = c .before .before .before .before .before
 
-abbrev there : ℕ → Lexed → Stepped
-there at l = record { number = Done; value = l .end; token = record { kind = l .kind; start = at; end = l .end }; cursor = l .end }
+  abbrev there : Lexed
+  there = endsAt (i e) (lexeme (afterDotAt (s e) (i e)) (drop (i e) (s e)))
+
+  ends : i e ≤ length (s e) → there .end ≤ length (s e)
+  unfolding tokenAt
+  ends h = step-ends (s e) (i e) h
+
+  taken : (c .kind-of .result ≡ there .kind) × (c .before .end-of .result ≡ there .end)
+  taken =
+      let t = split (c .before .before .next-token .result) there (c .before .before .next-token .ensures ∙ ap joined (sliced-token (i e) (s e))) (omega (arith, fits e, ends (c .before .before .before .before .if2 .left))) in
+      (c .kind-of .ensures ∙ t .0, c .before .end-of .ensures ∙ t .1)
+
+cast-t13 : tie.Need-cast-t13
+cast-t13 c = omega (arith, fits (e c), taken c .1, ends c (c .before .before .before .before .if2 .left))
+
+abbrev answer : ℕ → ℕ → ℕ → Stepped
+answer at kind end = record { number = Done; value = end; token = record { kind = kind; start = at; end = end }; cursor = end }
 
 returns-3 : tie.Need-returns-3
 unfolding tokenAt
 returns-3 c =
-    let e = c .before .before .before in
-    ap (there (i e)) (c .next-token .ensures ∙ sliced-token (i e) (s e)) ∙ ap stepped (sym (step-done (s e) (i e) (fits e) (c .before .before .if2 .left)))
+    ap₂ (answer (i (e c))) (taken c .0) (taken c .1) ∙ ap stepped (sym (step-done (s (e c)) (i (e c)) (fits (e c)) (c .before .before .before .before .if2 .left)))
 
 pub step-spec : {M : Type 1} → statement M
 step-spec =
@@ -64,6 +77,8 @@ step-spec =
     (λ c. search needs)
     (λ c. search needs)
     (λ c κs. search needs)
+    (λ c κs. search needs)
+    (λ c κs. search needs)
     (λ c. search needs)
-    cast-t12
+    cast-t13
     returns-3)

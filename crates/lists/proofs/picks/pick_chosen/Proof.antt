@@ -1,12 +1,16 @@
 -- `lists::picks::pick_chosen` meets its contract. The invariant: what is left from here is what was left from the cursor. The measure is what is left of the text.
 -- Assumes nothing.
-use Prim.Native.Nat.{_-_, _≤_, _<_}
-use mathlib.Core.Path.{_≡_, refl, sym, ap, subst, _∙_}
+use Prim.Native.Nat.{ℕ, _-_, _≤_, _<_}
+use mathlib.Core.Path.{_≡_, refl, sym, ap, ap₂, subst, _∙_}
 use mathlib.Core.List.{List}
 use denote.Ref.{now}
-use lib.ListN.{length}
+use lib.ListN.{length, drop}
 use native.Mathlib.Omega.{arith}
-use Rattle.rules.specs.Tokens.{Token}
+use borrow.Author.Needs.{needs}
+use Rattle.rules.specs.Tokens.{Token, lexeme, afterDotAt}
+use Rattle.lexer.specs.declared.tokenizer.Lexed.{Lexed}
+use Rattle.lexer.specs.Ends.{endsAt, joined}
+use Rattle.lexer.proofs.Ends.{next-lies, split, sliced-token}
 use Rattle.lists.specs.Choices.{chosen}
 use Rattle.lists.specs.Picks.{recordsOf}
 use Rattle.lists.proofs.Choosing.{next-fits, chosen-keep, chosen-drop}
@@ -20,29 +24,47 @@ Inv-loop text choice cursor start₀ start = chosen choice text start ≡ chosen
 abbrev μ-loop : tie.MeasureT-loop
 μ-loop text choice cursor start₀ start = length text - start
 
--- a token is left, so the cursor is before the position
-before : (c : tie.After-next-token Inv-loop μ-loop) → let l = c .before in l .loop .start < l .before .before .args .choice .position
-before c =
-    let l = c .before in
-    let s = l .before .before in
-    pick-before _ _ _ (s .pre .1) (subst (λ (ts : List Token). 0 < length ts) (sym (l .loop .inv)) (s .pre .2))
+module _ (c : tie.After-end-of Inv-loop μ-loop) where
+  abbrev l : tie.At-loop Inv-loop μ-loop
+  l = c .before .before .before .before
 
-moves : (c : tie.After-next-token Inv-loop μ-loop) → let r = c .next-token .result in let l = c .before in (l .loop .start < r .end) × (r .end ≤ length (now (l .before .before .args .text)))
-moves c = let s = c .before .before .before in next-fits (s .args .choice) _ _ _ (c .next-token .ensures) (s .pre .1) (before c)
+  abbrev st : tie.Start Inv-loop μ-loop
+  st = c .before .before .before .before .before .before
+
+  abbrev s : List ℕ
+  s = now (st .args .text)
+
+  -- a token is left, so the cursor is before the position
+  before : l .loop .start < st .args .choice .position
+  before = pick-before _ _ _ (st .pre .1) (subst (λ (ts : List Token). 0 < length ts) (sym (l .loop .inv)) (st .pre .2))
+
+  abbrev r : Lexed
+  r = record { kind = c .before .kind-of .result; end = c .end-of .result }
+
+  abbrev there : Lexed
+  there = endsAt (l .loop .start) (lexeme (afterDotAt s (l .loop .start)) (drop (l .loop .start) s))
+
+  abbrev parts : ℕ → ℕ → Lexed
+  parts k n = record { kind = k; end = n }
+
+  found : r ≡ there
+  found =
+      let f = next-lies s (l .loop .start) there (omega (arith, before, st .pre .1)) refl in
+      let t = split (c .before .before .next-token .result) there (c .before .before .next-token .ensures ∙ ap joined (sliced-token (l .loop .start) s)) (omega (arith, f, st .pre .0)) in
+      ap₂ parts (c .before .kind-of .ensures ∙ t .0) (c .end-of .ensures ∙ t .1)
+
+  moves : (l .loop .start < r .end) × (r .end ≤ length s)
+  moves = next-fits (st .args .choice) s (l .loop .start) r found (st .pre .1) before
 
 returns : tie.Need-returns Inv-loop μ-loop
 returns c =
-    let n = c .before .before in
-    let s = n .before .before .before in
-    let k = sym (c .before .keeps .ensures) ∙ c .if1 .taken in
-    ap recordsOf (sym (n .before .loop .inv) ∙ chosen-keep (s .args .choice) _ _ _ (n .next-token .ensures) (s .pre .1) (before n) k)
+    let e = c .before .before in
+    ap recordsOf (sym (l e .loop .inv) ∙ chosen-keep (st e .args .choice) (s e) (l e .loop .start) (r e) (found e) (st e .pre .1) (before e) (sym (c .before .keeps .ensures) ∙ c .if1 .taken))
 
 loop-again : tie.Need-loop-again Inv-loop μ-loop
 loop-again c =
-    let n = c .before .before in
-    let s = n .before .before .before in
-    let k = sym (c .before .keeps .ensures) ∙ c .if1 .left in
-    sym (chosen-drop (s .args .choice) _ _ _ (n .next-token .ensures) (s .pre .1) (before n) k) ∙ n .before .loop .inv
+    let e = c .before .before in
+    sym (chosen-drop (st e .args .choice) (s e) (l e .loop .start) (r e) (found e) (st e .pre .1) (before e) (sym (c .before .keeps .ensures) ∙ c .if1 .left)) ∙ l e .loop .inv
 
 pub pick-chosen-spec : {M : Type 1} → statement M
 pick-chosen-spec =
@@ -51,10 +73,15 @@ pick-chosen-spec =
     Inv-loop
     μ-loop
     (λ c. refl)
-    (λ c κs. tt)
-    (λ c κs. tt)
-    (λ c. omega (arith, moves (c .before .before)))
-    (λ c. omega (arith, moves (c .before .before)))
+    (λ c. search needs)
+    (λ c. search needs)
+    (λ c. search needs)
+    (λ c κs. search needs)
+    (λ c κs. search needs)
+    (λ c κs. search needs)
+    (λ c κs. search needs)
+    (λ c. let e = c .before .before in omega (arith, moves e, st e .pre .0))
+    (λ c. let e = c .before .before in omega (arith, moves e, st e .pre .0))
     returns
     (λ c. omega (arith, moves (c .before .before)))
     loop-again)
