@@ -9,7 +9,7 @@ use std::hint::black_box;
 
 const SIZES: [usize; 8] = [0, 1, 2, 5, 10, 20, 50, 100];
 
-/// How many texts of a size there are. The processor of the first run of this table had learned 1,000 first tokens by heart, but not 4,000.
+/// How many texts of a size there are. The first tokens of 1,000 were learned by heart where this was tried, those of 4,000 were not.
 const TEXTS: usize = 10_000;
 
 /// What a call makes, and what measures it over some texts of one size.
