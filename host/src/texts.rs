@@ -38,10 +38,11 @@ const PLAIN: &str = "SELECT count, sum(amount) + 12 AS total FROM orders AS t, u
 /// Where texts are put: around the end of the block that begins with a text's first byte.
 const OFFSETS: std::ops::RangeInclusive<usize> = 56..=72;
 
-/// A short text after some bytes of plain tokens, which end in one of several ways, and before others, which begin in one.
+/// A short text after some bytes of plain tokens and before others. What stands beside it is a space, or a word, a number, a dot, an operator
+/// or a string that it may go on with.
 fn within(r: &mut Random, short: &str, offset: usize) -> String {
-    let before = &PLAIN[..offset - 1];
-    let (last, next) = (r.one_of(&[" ", "a", "1", ".", "<", "'"]), r.one_of(&[" ", "a", "1", "' "]));
+    let (last, next) = (r.one_of(&["  ", " a", " 1", "a.", " <", " '"]), r.one_of(&[" ", "a", "1", "' "]));
+    let before = &PLAIN[..offset - last.len()];
     format!("{before}{last}{short}{next}{PLAIN}")
 }
 
