@@ -39,3 +39,7 @@ Marked s from until words = (at : ℕ) → from ≤ at → marked until words at
 -- After so many bytes that were searched in vain it pays to look ahead.
 abbrev pub lookAfter : ℕ
 lookAfter = 1000000
+
+-- How many bytes of a text a token's search went over in vain: bit 38 of its number says that it did, and it went from its end to the text's.
+abbrev pub wastedBy : ℕ → ℕ → ℕ
+wastedBy lexed size = cond (eqb (lexed / 2 ^ 38 % 2) 0) 0 (size - lexed % 2 ^ 32)

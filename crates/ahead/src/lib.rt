@@ -23,7 +23,7 @@ ghost use Rattle.rules.specs.Characters.{dollar};
 ghost use Rattle.lexer.specs.Ends.{Lexes};
 ghost use Rattle.lexer.specs.HereDocs.{TagEnd};
 ghost use Rattle.ahead.specs.Slots.{slots, keyAt, tableSize, mixed, hashFrom, startOf, wordOf, mayHold, probed, slotOf, slotFrom, Seen};
-ghost use Rattle.ahead.specs.Marks.{Lone, LoneWord, LoneWords, LoneUntil, marked, Marked};
+ghost use Rattle.ahead.specs.Marks.{Lone, LoneWord, LoneWords, LoneUntil, marked, Marked, wastedBy};
 
 // One byte more of a hash. Of the old one the lower half is multiplied and the upper half added, so nothing wraps and nothing is lost.
 fn mix(k: u32, h: u64, b: u8) -> u64
@@ -420,7 +420,7 @@ fn is_closed(text: &[u8], at: usize) -> bool {
 
 // How many bytes of a text of `size` bytes were searched in vain for a here-document's end: bit 38 says that it was so, from the token on.
 pub fn wasted_by(lexed: u64, size: usize) -> usize
-    ensures { λ r. ⌜ r ≤ size ⌝ }
+    ensures { λ r. ⌜ (r ≡ wastedBy lexed size) × (r ≤ size) ⌝ }
 {
     if lexed / 0x40_0000_0000 % 2 == 0 {
         return 0;

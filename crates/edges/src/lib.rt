@@ -8,7 +8,8 @@ use lexer::tokenizer::kind_of;
 use lexer::tokenizer::next_token;
 use lexer::tokenizer::read_string;
 ghost use mathlib.Core.Path.{_≡_};
-ghost use Prim.Native.Nat.{ℕ, _+_, _≤_, _<_};
+ghost use Prim.Native.Nat.{ℕ, _-_, _≤_, _<_};
+ghost use lib.Dec.{leb};
 ghost use lib.ListN.{length};
 ghost use mathlib.Core.List.{List};
 ghost use Rattle.rules.specs.Kinds.{NoToken};
@@ -321,6 +322,7 @@ pub fn find(text: &[u8], at: usize, shy: bool) -> u64
 // Whether a token is so long that little is left of a block after it.
 pub fn is_long(start: usize, end: usize) -> bool
     requires { ⌜ start ≤ end ⌝ }
+    ensures { λ r. ⌜ r ≡ leb 48 (end - start) ⌝ }
 {
     end - start >= 48
 }

@@ -78,7 +78,7 @@ module _ (s list₀ : List ℕ) (answer : Answer) (is : Answered answer (outcome
         let k = ap length (p .0) in
         let q = steps-list s (omega (arith, is .1)) in
         let n = ap length (q .1) in
-        (q .0, omega (arith, p .1), before (read .held .count) (omega (arith, is .1)))
+        (q .0, omega (arith, p .1), before (omega (arith, read .held .count)) (omega (arith, is .1)))
       where
         before : i * tokenBytes + length (tokensFrom s at) * tokenBytes ≡ length (tokens s) * tokenBytes → i < length (tokens s) → at < length s
         before c l = go (decLt at (length s))

@@ -89,12 +89,3 @@ module _ (s : List ℕ) (start e : ℕ) (t : TagEnd s (start + 1) e) where
               let h = by (some m) f .1 in
               let u = t .from in
               ap (λ (n : ℕ). record { kind = HereDoc; end = n }) (omega arith) ∙ sym (ap (λ (o : Option ℕ). endsAt start (dollarLexeme o)) (by (some m) f .0))
-
--- a tag ends at one place
-pub one-end : {s : List ℕ} {at d e : ℕ} → TagEnd s at d → TagEnd s at e → d ≡ e
-one-end {s} {at} {d} {e} t u = go (decLt d e) (decLt e d)
-  where
-    go : Dec (d < e) → Dec (e < d) → d ≡ e
-    go (yes l) y = clash (u .tags d l (t .from)) (t .over)
-    go (no k) (yes l) = clash (t .tags e l (u .from)) (u .over)
-    go (no k) (no l) = omega arith

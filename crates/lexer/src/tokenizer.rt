@@ -1024,7 +1024,7 @@ pub fn is_tag_byte(b: u8) -> bool
 }
 
 // Where the tag bytes from `at` on end.
-pub fn tag_end(text: &[u8], at: usize) -> usize
+fn tag_end(text: &[u8], at: usize) -> usize
     requires { ⌜ at ≤ length (now text) ⌝ }
     ensures { λ r. ⌜ TagEnd (now (text .entry)) at r ⌝ }
 {

@@ -2,6 +2,7 @@
 -- `ended` and `Learnt` are the toolchain's own for each function: how its parameters end, and what its contract tells a caller.
 -- Every public function of the libraries is here but those that docs/PROMISES.md names: some leave a choice that no answer shows, and those of `forms` have no `Learnt`.
 -- Assumes nothing.
+use Prim.Native.Nat.{ℕ, _/_, _%_, _^_}
 use mathlib.Core.Path.{_≡_, refl, sym, ap, _∙_}
 use denote.Ref.{now}
 use Rattle.rules.proofs as rules
@@ -10,7 +11,11 @@ use Rattle.utf8.proofs as utf8
 use Rattle.classes.proofs as classes
 use Rattle.probe.proofs as probe
 use Rattle.lexer.proofs.tokenizer as tokenizer
-use Rattle.lexer.proofs.HereDocs.{one-end}
+use Rattle.lexer.specs.declared.tokenizer.Lexed.{Lexed}
+use Rattle.runs.proofs as runs
+use Rattle.blocks.proofs as blocks
+use Rattle.ahead.proofs as ahead
+use Rattle.edges.proofs as edges
 use Rattle.lists.proofs.listing as listing
 use Rattle.lists.proofs.packed as packed
 use Rattle.lists.proofs.picks as picks
@@ -51,6 +56,9 @@ answer-value κs a r s u v p q = (same p q, refl)
 
 pub byte-at : Determined utf8.byte_at.ended utf8.byte_at.Reads.Learnt
 byte-at κs a r s u v p q = (same p q, refl)
+
+pub is-tail : Determined utf8.is_tail.ended utf8.is_tail.Reads.Learnt
+is-tail κs a r s u v p q = (same p q, refl)
 
 pub unit-at : Determined utf8.unit_at.ended utf8.unit_at.Reads.Learnt
 unit-at κs a r s u v p q = (same p q, refl)
@@ -109,8 +117,45 @@ next-token κs a r s u v p q = (same p q, refl)
 pub is-tag-byte : Determined tokenizer.is_tag_byte.ended tokenizer.is_tag_byte.Reads.Learnt
 is-tag-byte κs a r s u v p q = (same p q, refl)
 
-pub tag-end : Determined tokenizer.tag_end.ended tokenizer.tag_end.Reads.Learnt
-tag-end κs a r s u v p q = (one-end p q, refl)
+pub join : Determined tokenizer.join.ended tokenizer.join.Reads.Learnt
+join κs a r s u v p q = (same p q, refl)
+
+pub kind-of : Determined tokenizer.kind_of.ended tokenizer.kind_of.Reads.Learnt
+kind-of κs a r s u v p q = (same p q, refl)
+
+pub end-of : Determined tokenizer.end_of.ended tokenizer.end_of.Reads.Learnt
+end-of κs a r s u v p q = (same p q, refl)
+
+pub read-string : Determined tokenizer.read_string.ended tokenizer.read_string.Reads.Learnt
+read-string κs a r s u v p q = (same p q, refl)
+
+pub eight : Determined runs.eight.ended runs.eight.Reads.Learnt
+eight κs a r s u v p q = (same p q, refl)
+
+pub others : Determined runs.others.ended runs.others.Reads.Learnt
+others κs a r s u v p q = (same p q, refl)
+
+pub block-edges : Determined blocks.edges.ended blocks.edges.Reads.Learnt
+block-edges κs a r s u v p q = (same p q, refl)
+
+pub wasted-by : Determined ahead.wasted_by.ended ahead.wasted_by.Reads.Learnt
+wasted-by κs a r s u v p q = (same (p .0) (q .0), refl)
+
+-- The lexeme that a number has: of its bit 38 the two contracts below say nothing.
+abbrev lexedIn : ℕ → Lexed
+lexedIn r = record { kind = r / 2 ^ 32 % 64; end = r % 2 ^ 32 }
+
+pub read-dollar : DeterminedAs ahead.read_dollar.ended ahead.read_dollar.Reads.Learnt (λ κs r. lexedIn r)
+read-dollar κs a r s u v p q = (same p q, refl)
+
+pub read-plainly : DeterminedAs edges.read.ended edges.read.Reads.Learnt (λ κs r. lexedIn r)
+read-plainly κs a r s u v p q = (same p q, refl)
+
+pub leads : Determined edges.leads.ended edges.leads.Reads.Learnt
+leads κs a r s u v p q = (same p q, refl)
+
+pub is-long : Determined edges.is_long.ended edges.is_long.Reads.Learnt
+is-long κs a r s u v p q = (same p q, refl)
 
 pub step : Determined tokenizer.step.ended tokenizer.step.Reads.Learnt
 step κs a r s u v p q = (same p q, refl)

@@ -132,7 +132,7 @@ mask-some-spec =
     (λ c κs. search needs)
     (λ c κs. let j = c .before .before .before .before .before .before in let t = j .before in let m = c .taken .ensures (s t) (i t) (st t .pre .0) (inside t .1) (c .before .read .ensures) (lefts j) in omega (arith, goes-moves (s t) _ _ _ _ _ _ (i t) (goes t) (omega arith) (t .loop-test .taken) _ _ m))
     (λ c κs. search needs)
-    (λ c. let t = c .before .before .before .before .before .before .before .before .before in omega (arith, c .wasted-by .ensures, st t .pre .0, goes-spared (s t) _ _ _ _ _ _ (i t) (goes t) (omega arith) (t .loop-test .taken)))
+    (λ c. let t = c .before .before .before .before .before .before .before .before .before in omega (arith, c .wasted-by .ensures .1, st t .pre .0, goes-spared (s t) _ _ _ _ _ _ (i t) (goes t) (omega arith) (t .loop-test .taken)))
     (λ c κs. search needs)
     (λ c κs. let n = c .before .before .before in (hiding (c .before), omega (arith, n .before .before .before .before .before .before .loop .inv .1, st (n .before .before .before .before .before) .pre .2)))
     (λ c. omega (arith, moves (c .before .before .before .before .before .before)))
