@@ -392,7 +392,7 @@ valid-skip zero s = refl
 valid-skip (suc k) [] = refl
 valid-skip (suc k) (a ∷ s) = valid-skip k s
 
-valid-cons : (t : List ℕ) (w : ℕ) → 0 < length t → wellFormed t ≡ suc w → validLength t ≡ suc w + validLength (drop (suc w) t)
+pub valid-cons : (t : List ℕ) (w : ℕ) → 0 < length t → wellFormed t ≡ suc w → validLength t ≡ suc w + validLength (drop (suc w) t)
 unfolding validAfter
 valid-cons [] w h e = absurd (not-suc-le-zero h)
 valid-cons (b ∷ s) w h e = rw (e, validAfter) (ap (λ (n : ℕ). suc w + n) (valid-skip w s))

@@ -15,7 +15,7 @@ use Rattle.rules.specs.Masking.{masked, hidden, maskTokens, hiddenIn}
 use Rattle.rules.proofs.Visible.{Fits, fits-length, maskTokens-at, hiddenIn-masked, maskTokens-agree}
 use Rattle.rules.proofs.Reading.{Read, flatten, read-chars, flatten-chars, length-flatten}
 use Rattle.rules.proofs.Masks.{Masks, kept-masks, widths-masks, read-masks}
-use Rattle.rules.proofs.Validity.{Formed, valid-formed, formed-valid, formed-masks}
+use Rattle.rules.proofs.Validity.{valid-chars, formed-valid, formed-masks}
 use Rattle.rules.proofs.Step.{Step}
 use Rattle.rules.proofs.Rules.{Why, why, dot-free}
 use Rattle.rules.proofs.Runs.{space-step, letters-step, dashes-step}
@@ -71,8 +71,7 @@ length-masked s =
 pub valid-masked : (s : List ℕ) → valid s ≡ true → valid (masked s) ≡ true
 valid-masked s h =
     let c = copied s in
-    let f : Formed (chars s) = valid-formed (chars s) (read-chars s) (ap valid (flatten-chars s) ∙ h) in
-    ap valid (c .bytes) ∙ formed-valid (c .copy) (read-masks (read-chars s) (c .masks)) (formed-masks (read-chars s) (c .masks) f)
+    ap valid (c .bytes) ∙ formed-valid (c .copy) (read-masks (read-chars s) (c .masks)) (formed-masks (read-chars s) (c .masks) (valid-chars s .0 h))
 
 -- The tokens from any offset on fit what follows it: their bytes are the text's, and what a token keeps at its front and at its back does not meet.
 pub fits-from : (s : List ℕ) (i : ℕ) → Fits (tokensFrom s i) (drop i s)
