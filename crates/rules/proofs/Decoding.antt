@@ -101,9 +101,6 @@ module _ (a b c d : ℕ) where
   unfolding formed
   formed-four l = rw (lt-leb a 0x7F (omega arith)) (rw (two-above a b (omega arith)) (rw (three-above a b c (omega arith))))
 
-  pub formed-high : 0xF4 < a → formed a b c d ≡ 0
-  formed-high h = formed-four (omega arith) ∙ rw (four-above a b c d h)
-
 abbrev pub Tail : ℕ → Type 0
 Tail b = (0x80 ≤ b) × (b ≤ 0xBF)
 
@@ -340,10 +337,11 @@ inside-at s i k h l u =
     let e : i + (k - i) ≡ k = omega arith in
     rw e at (rw getD-drop at (inside (drop i s) (k - i) (some-left s i h) (omega arith) (omega arith)))
 
--- A character whose first byte is no ASCII has a code that is no ASCII's, and a well-formed one's is a code point.
+-- a tail by its low bits
 pub low-of : {b : ℕ} → Tail b → b % 64 + 0x80 ≡ b
 low-of h = omega arith
 
+-- A character whose first byte is no ASCII has a code that is no ASCII's.
 pub code-high : (t : List ℕ) → 0x80 ≤ getD t 0 0 → 0x80 ≤ charAt t .code
 unfolding charOf codeOf
 code-high t h = go (form-of t)
@@ -354,17 +352,6 @@ code-high t h = go (form-of t)
     go (two a a2 b) = omega arith
     go (three a a2 b c) = let e : getD t 0 0 % 16 + 0xE0 ≡ getD t 0 0 = omega arith in let f = low-of b in omega arith
     go (four a a2 b c d) = let e : getD t 0 0 % 8 + 0xF0 ≡ getD t 0 0 = omega arith in let f = low-of b in omega arith
-
-pub code-point : (t : List ℕ) → 0 < wellFormed t → codeOf (wellFormed t) t < noCode
-unfolding codeOf
-code-point t h = go (form-of t) h
-  where
-    go : {w : ℕ} → Form (getD t 0 0) (getD t 1 0) (getD t 2 0) (getD t 3 0) w → 0 < w → codeOf w t < noCode
-    go none z = absurd (omega arith)
-    go (one a) z = omega arith
-    go (two a a2 b) z = omega arith
-    go (three a a2 b c) z = omega arith
-    go (four a a2 b c d) z = let e : getD t 0 0 % 8 + 0xF0 ≡ getD t 0 0 = omega arith in let f = low-of b in omega arith
 
 -- the code at an index, by the character's length and the bytes from the index on
 module _ (s : List ℕ) (i n : ℕ) where
@@ -392,7 +379,7 @@ valid-skip zero s = refl
 valid-skip (suc k) [] = refl
 valid-skip (suc k) (a ∷ s) = valid-skip k s
 
-valid-cons : (t : List ℕ) (w : ℕ) → 0 < length t → wellFormed t ≡ suc w → validLength t ≡ suc w + validLength (drop (suc w) t)
+pub valid-cons : (t : List ℕ) (w : ℕ) → 0 < length t → wellFormed t ≡ suc w → validLength t ≡ suc w + validLength (drop (suc w) t)
 unfolding validAfter
 valid-cons [] w h e = absurd (not-suc-le-zero h)
 valid-cons (b ∷ s) w h e = rw (e, validAfter) (ap (λ (n : ℕ). suc w + n) (valid-skip w s))

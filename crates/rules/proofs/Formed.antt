@@ -1,12 +1,13 @@
--- A `#` in place of a byte after a character leaves the character as it is.
+-- A well-formed character depends on its own bytes alone, and a `#` in place of a byte after any character leaves the character as it is.
 -- Assumes nothing.
 use Prim.Native.Nat.{ℕ, _<_}
 use native.Mathlib.Omega.{arith}
 use mathlib.Core.Path.{_≡_, refl}
+use mathlib.Core.List.{List}
 use mathlib.Core.Bool.{Bool, true, false, cond, and-false}
-use Rattle.rules.specs.Utf8.{utf8One, utf8Two, utf8Three, utf8Four, formed}
+use lib.ListN.{getD}
+use Rattle.rules.specs.Utf8.{utf8One, utf8Two, utf8Three, utf8Four, formed, wellFormed}
 use Rattle.rules.specs.Limits.{maskByte}
-use Rattle.rules.specs.Lexeme.{two}
 
 -- the length by the four tests
 chain : Bool → Bool → Bool → Bool → ℕ
@@ -32,6 +33,35 @@ unfolding chain
 without-two true q r s h = refl
 without-two false true r s h = absurd (omega arith)
 without-two false false r s h = without-three false false r s (omega arith)
+
+-- a test after the first that passes is not asked
+before-all : (p q r s p' q' r' s' : Bool) → 0 < chain p q r s → p' ≡ p → (1 < chain p q r s → q' ≡ q) → (2 < chain p q r s → r' ≡ r) → (3 < chain p q r s → s' ≡ s)
+    → chain p' q' r' s' ≡ chain p q r s
+unfolding chain
+before-all true q r s p' q' r' s' h a b c d = rw a
+before-all false true r s p' q' r' s' h a b c d = rw (a, b (omega arith))
+before-all false false true s p' q' r' s' h a b c d = rw (a, b (omega arith), c (omega arith))
+before-all false false false true p' q' r' s' h a b c d = rw (a, b (omega arith), c (omega arith), d (omega arith))
+before-all false false false false p' q' r' s' h a b c d = absurd (omega arith)
+
+-- A text that begins with the bytes of a well-formed character begins with that character.
+pub formed-own : (s t : List ℕ) → 0 < wellFormed s → ((i : ℕ) → i < wellFormed s → getD t i 0 ≡ getD s i 0) → wellFormed t ≡ wellFormed s
+unfolding formed chain
+formed-own s t h e =
+    before-all (one s) (two s) (three s) (four s) (one t) (two t) (three t) (four t) h
+    (rw (e 0 h)) (λ l. rw (e 0 h, e 1 l)) (λ l. rw (e 0 h, e 1 (omega arith), e 2 l)) (λ l. rw (e 0 h, e 1 (omega arith), e 2 (omega arith), e 3 l))
+  where
+    one : List ℕ → Bool
+    one l = utf8One (getD l 0 0)
+
+    two : List ℕ → Bool
+    two l = utf8Two (getD l 0 0) (getD l 1 0)
+
+    three : List ℕ → Bool
+    three l = utf8Three (getD l 0 0) (getD l 1 0) (getD l 2 0)
+
+    four : List ℕ → Bool
+    four l = utf8Four (getD l 0 0) (getD l 1 0) (getD l 2 0) (getD l 3 0)
 
 -- a `#` is no tail, so it ends no longer character
 module _ (a b c d : ℕ) where

@@ -11,6 +11,7 @@ pub mod Formed
 pub mod Reading
 pub mod Proper
 pub mod Validity
+pub mod LongestValid
 -- What the proof of demand 3 asks of each rule.
 pub mod Masks
 pub mod Step

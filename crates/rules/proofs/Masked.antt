@@ -12,10 +12,10 @@ use Rattle.rules.specs.Limits.{maskByte}
 use Rattle.rules.specs.Lexeme.{first}
 use Rattle.rules.specs.Tokens.{rule, Rule, spaces, dashes, slashStar, numeral, letters, quoted, doubleQuoted, backQuoted, curlyQuoted, curlyDoubleQuoted, dollars, others, Token, tokens, tokensAfter, tokensFrom, afterDotAt}
 use Rattle.rules.specs.Masking.{masked, hidden, maskTokens, hiddenIn}
-use Rattle.rules.proofs.Visible.{Fits, maskTokens-at, hiddenIn-masked, maskTokens-agree}
+use Rattle.rules.proofs.Visible.{Fits, fits-length, maskTokens-at, hiddenIn-masked, maskTokens-agree}
 use Rattle.rules.proofs.Reading.{Read, flatten, read-chars, flatten-chars, length-flatten}
 use Rattle.rules.proofs.Masks.{Masks, kept-masks, widths-masks, read-masks}
-use Rattle.rules.proofs.Validity.{Formed, valid-formed, formed-valid, formed-masks}
+use Rattle.rules.proofs.Validity.{valid-chars, formed-valid, formed-masks}
 use Rattle.rules.proofs.Step.{Step}
 use Rattle.rules.proofs.Rules.{Why, why, dot-free}
 use Rattle.rules.proofs.Runs.{space-step, letters-step, dashes-step}
@@ -71,8 +71,7 @@ length-masked s =
 pub valid-masked : (s : List ℕ) → valid s ≡ true → valid (masked s) ≡ true
 valid-masked s h =
     let c = copied s in
-    let f : Formed (chars s) = valid-formed (chars s) (read-chars s) (ap valid (flatten-chars s) ∙ h) in
-    ap valid (c .bytes) ∙ formed-valid (c .copy) (read-masks (read-chars s) (c .masks)) (formed-masks (read-chars s) (c .masks) f)
+    ap valid (c .bytes) ∙ formed-valid (c .copy) (read-masks (read-chars s) (c .masks)) (formed-masks (read-chars s) (c .masks) (valid-chars s .0 h))
 
 -- The tokens from any offset on fit what follows it: their bytes are the text's, and what a token keeps at its front and at its back does not meet.
 pub fits-from : (s : List ℕ) (i : ℕ) → Fits (tokensFrom s i) (drop i s)
@@ -96,16 +95,18 @@ pub hidden-masked : (s : List ℕ) (i : ℕ) → hidden (masked s) i ≡ hidden 
 unfolding masked hidden
 hidden-masked s i = ap (λ (ts : List Token). hiddenIn ts (masked s) i) (relex s) ∙ hiddenIn-masked (tokens s) s (fits s) i
 
--- Two texts have one copy exactly if they have the same tokens and length and agree on each byte that is not hidden.
+-- Texts with the same tokens are of one length.
+same-length : (a b : List ℕ) → tokens a ≡ tokens b → length a ≡ length b
+same-length a b e = fits-length (tokens b) a b (rw e at (fits a)) (fits b)
+
+-- Two texts have one copy exactly if they have the same tokens and agree on each byte that is not hidden.
 pub record Alike (a b : List ℕ) : Type 0 where
   pub list : tokens a ≡ tokens b
-  pub size : length a ≡ length b
   pub shown : (i : ℕ) → i < length a → hidden a i ≡ false → getD a i 0 ≡ getD b i 0
 
 mask-alike : (a b : List ℕ) → masked a ≡ masked b → Alike a b
 mask-alike a b e = record {
   list = sym (relex a) ∙ ap tokens e ∙ relex b;
-  size = sym (length-masked a) ∙ ap length e ∙ length-masked b;
   shown = λ i k h.
       let h' : hidden b i ≡ false = sym (hidden-masked b i) ∙ ap (λ (t : List ℕ). hidden t i) (sym e) ∙ hidden-masked a i ∙ h in
       sym (masked-at a i ∙ ap (λ (x : Bool). cond x maskByte (getD a i 0)) h) ∙ ap (λ (t : List ℕ). getD t i 0) e ∙ masked-at b i ∙ ap (λ (x : Bool). cond x maskByte (getD b i 0)) h';
@@ -113,14 +114,17 @@ mask-alike a b e = record {
 
 alike-mask : (a b : List ℕ) → Alike a b → masked a ≡ masked b
 unfolding masked hidden
-alike-mask a b q = sym (maskTokens-agree (tokens a) a b (sym (q .size)) shown) ∙ ap (λ (ts : List Token). maskTokens ts b) (q .list)
+alike-mask a b q = sym (maskTokens-agree (tokens a) a b (sym size) shown) ∙ ap (λ (ts : List Token). maskTokens ts b) (q .list)
   where
+    size : length a ≡ length b
+    size = same-length a b (q .list)
+
     shown : (i : ℕ) → hiddenIn (tokens a) a i ≡ false → getD b i 0 ≡ getD a i 0
     shown i h = go (decLt i (length a))
       where
         go : Dec (i < length a) → getD b i 0 ≡ getD a i 0
         go (yes k) = sym (q .shown i k h)
-        go (no k) = List·getD-eq-default b 0 (let s = q .size in omega arith) ∙ sym (List·getD-eq-default a 0 (omega arith))
+        go (no k) = List·getD-eq-default b 0 (let l = size in omega arith) ∙ sym (List·getD-eq-default a 0 (omega arith))
 
 pub same-mask : (a b : List ℕ) → (masked a ≡ masked b) ↔ Alike a b
 same-mask a b = (mask-alike a b, alike-mask a b)
@@ -129,6 +133,5 @@ same-mask a b = (mask-alike a b, alike-mask a b)
 pub masked-twice : (s : List ℕ) → masked (masked s) ≡ masked s
 masked-twice s = alike-mask (masked s) s (record {
   list = relex s;
-  size = length-masked s;
   shown = λ i k h. masked-at s i ∙ ap (λ (x : Bool). cond x maskByte (getD s i 0)) (sym (hidden-masked s i) ∙ h);
 })

@@ -147,12 +147,8 @@ module _ (p q : ℕ → Bool) (small : (c : ℕ) → 0x80 ≤ c → p c ≡ fals
           rw (here, e) (ap (λ (cs : List Char). q (first (drop 1 cs))) (chars-ascii s i (l .0) (l .1)) ∙ next-like q small′ none′ s (i + 1))
 
 -- one of two characters of ASCII
-module _ (a b : ℕ) (pa : 0 < a) (la : a < 0x80) (pb : 0 < b) (lb : b < 0x80) where
-  either-high : (c : ℕ) → 0x80 ≤ c → either a b c ≡ false
-  either-high c h = rw (ne-eqb c a (λ e. omega arith), ne-eqb c b (λ e. omega arith))
-
-  either-none : either a b 0 ≡ false
-  either-none = rw (ne-eqb 0 a (λ e. omega arith), ne-eqb 0 b (λ e. omega arith))
+either-high : (a b : ℕ) → a < 0x80 → b < 0x80 → (c : ℕ) → 0x80 ≤ c → either a b c ≡ false
+either-high a b la lb c h = rw (ne-eqb c a (λ e. omega arith), ne-eqb c b (λ e. omega arith))
 
 hex-high : (c : ℕ) → 0x80 ≤ c → hexDigit c ≡ false
 hex-high = radix-high true
@@ -170,12 +166,12 @@ opening-bytes s i h l =
     e = omega arith
 
     hexes : (either smallX capitalX (first (chars (drop (i + 1) s))) && hexDigit (first (drop 1 (chars (drop (i + 1) s))))) ≡ (either smallX capitalX (getD s (i + 1) 0) && hexDigit (getD s (i + 2) 0))
-    hexes = pair-like (either smallX capitalX) hexDigit (either-high smallX capitalX (omega arith) (omega arith) (omega arith) (omega arith)) refl hex-high refl s (i + 1) ∙ ap (λ (n : ℕ). either smallX capitalX (getD s (i + 1) 0) && hexDigit (getD s n 0)) e
+    hexes = pair-like (either smallX capitalX) hexDigit (either-high smallX capitalX (omega arith) (omega arith)) refl hex-high refl s (i + 1) ∙ ap (λ (n : ℕ). either smallX capitalX (getD s (i + 1) 0) && hexDigit (getD s n 0)) e
 
     bits : (either smallB capitalB (first (chars (drop (i + 1) s))) && either zeroDigit oneDigit (first (drop 1 (chars (drop (i + 1) s))))) ≡ (either smallB capitalB (getD s (i + 1) 0) && either zeroDigit oneDigit (getD s (i + 2) 0))
     bits =
-        pair-like (either smallB capitalB) (either zeroDigit oneDigit) (either-high smallB capitalB (omega arith) (omega arith) (omega arith) (omega arith)) refl
-        (either-high zeroDigit oneDigit (omega arith) (omega arith) (omega arith) (omega arith)) refl s (i + 1)
+        pair-like (either smallB capitalB) (either zeroDigit oneDigit) (either-high smallB capitalB (omega arith) (omega arith)) refl
+        (either-high zeroDigit oneDigit (omega arith) (omega arith)) refl s (i + 1)
         ∙ ap (λ (n : ℕ). either smallB capitalB (getD s (i + 1) 0) && either zeroDigit oneDigit (getD s n 0)) e
 
     go : (z : Bool)
@@ -225,11 +221,11 @@ signs-most c = cond-ind (λ (n : ℕ). n ≤ 1) (either plus dash c) 1 0 (λ e. 
 
 -- the exponent at a byte
 signs-high : (c : ℕ) → 0x80 ≤ c → either plus dash c ≡ false
-signs-high = either-high plus dash (omega arith) (omega arith) (omega arith) (omega arith)
+signs-high = either-high plus dash (omega arith) (omega arith)
 
 marks-high : (hex : Bool) (c : ℕ) → 0x80 ≤ c → marks hex c ≡ false
-marks-high true = either-high smallP capitalP (omega arith) (omega arith) (omega arith) (omega arith)
-marks-high false = either-high smallE capitalE (omega arith) (omega arith) (omega arith) (omega arith)
+marks-high true = either-high smallP capitalP (omega arith) (omega arith)
+marks-high false = either-high smallE capitalE (omega arith) (omega arith)
 
 marks-none : (hex : Bool) → marks hex 0 ≡ false
 marks-none true = refl

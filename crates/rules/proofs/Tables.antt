@@ -3,7 +3,7 @@
 use Prim.Native.Nat.{ℕ, zero, suc, _+_, _-_, _≤_, _<_}
 use mathlib.Core.Path.{_≡_, refl, sym, _∙_}
 use mathlib.Core.List.{List, [], _∷_}
-use mathlib.Core.Bool.{Bool, true, false, _&&_, _||_, Bool·beq, or-true, and-false, or-assoc, or-false}
+use mathlib.Core.Bool.{Bool, true, false, _&&_, _||_, Bool·beq, and-false, or-assoc, or-false}
 use mathlib.Core.Logic.{⊎-elim}
 use native.Mathlib.Omega.{arith}
 use native.Mathlib.Nat.{not-suc-le-zero, le-of-suc-le-suc, eq-or-lt-of-le}
@@ -12,7 +12,7 @@ use lib.Dec.{leb, ltb, eqb, leb·zero, leb·suc-zero, leb·suc-suc, eqb·zero-su
 use Rattle.rules.specs.Utf8.{within, noCode}
 use Rattle.rules.specs.Tables.{whiteSpaceTable, alphabeticTable, numericTable}
 use Rattle.rules.specs.Classes.{inRanges, rises, whiteSpace, alphabetic, numeric, alphanumeric, letter, digit}
-use Rattle.rules.proofs.Tests.{and-both, letter-small, digit-small}
+use Rattle.rules.proofs.Tests.{and-both, letter-small}
 
 -- "They rise and never overlap."
 pub whiteSpace-rises : rises whiteSpaceTable ≡ true
@@ -123,17 +123,13 @@ unfolding numeric inRanges numericTable
 ascii-numeric = agree-at numeric digit 128 refl
 
 pub ascii-alphanumeric : (c : ℕ) → c < 128 → alphanumeric c ≡ (letter c || digit c)
-unfolding alphanumeric alphabetic numeric inRanges alphabeticTable numericTable
-ascii-alphanumeric = agree-at alphanumeric (λ c. letter c || digit c) 128 refl
+unfolding alphanumeric
+ascii-alphanumeric c h = rw (ascii-alphabetic c h, ascii-numeric c h)
 
--- ASCII's letters and digits are below 128, and so of Unicode's classes.
+-- ASCII's letters are below 128, and so of Unicode's classes.
 pub letter-alphabetic : (c : ℕ) → letter c ≡ true → alphabetic c ≡ true
 letter-alphabetic c h = ascii-alphabetic c (letter-small c h) ∙ h
 
 pub letter-alphanumeric : (c : ℕ) → letter c ≡ true → alphanumeric c ≡ true
 unfolding alphanumeric
 letter-alphanumeric c h = rw (letter-alphabetic c h)
-
-pub digit-alphanumeric : (c : ℕ) → digit c ≡ true → alphanumeric c ≡ true
-unfolding alphanumeric
-digit-alphanumeric c h = rw (ascii-numeric c (digit-small c h) ∙ h) (or-true (alphabetic c))

@@ -1,14 +1,16 @@
--- A text is valid where each of its characters is well-formed.
-use Prim.Native.Nat.{ℕ, zero, suc, _+_, _-_, _≤_, _<_}
+-- A text is valid exactly if each of its characters is well-formed, and what is valid of a text goes on after a valid one.
+use Prim.Native.Nat.{ℕ, zero, suc, _+_, _≤_, _<_}
 use native.Mathlib.Omega.{arith}
 use mathlib.Core.Path.{_≡_, refl, sym, ap, _∙_, subst}
-use mathlib.Core.List.{List, [], _∷_, _++_}
+use mathlib.Core.List.{List, [], _∷_, _++_, append-assoc, append-nil}
 use mathlib.Core.Bool.{true}
-use lib.Dec.{eqb}
-use lib.ListN.{length, length-append, length-take}
-use Rattle.rules.specs.Utf8.{formed, wellFormed, Char, width, charOf, charAt, validAfter, valid}
-use Rattle.rules.proofs.Decoding.{form-of}
-use Rattle.rules.proofs.Reading.{flatten, Read}
+use mathlib.Core.Logic.{_↔_}
+use lib.ListN.{length, length-append, length-take, List·getD-append}
+use lib.Seq.{drop-append-seam}
+use Rattle.rules.specs.Utf8.{formed, wellFormed, Char, width, charOf, charAt, chars, validLength, valid}
+use Rattle.rules.proofs.Decoding.{form-of, valid-cons, valid-stop, valid-end}
+use Rattle.rules.proofs.Formed.{formed-own}
+use Rattle.rules.proofs.Reading.{flatten, Read, read-chars, flatten-chars}
 use Rattle.rules.proofs.Proper.{formed-same, size-is}
 use Rattle.rules.proofs.Masks.{Masks, end, keep, hide, hashes, masks-under}
 use Rattle.rules.proofs.Tests.{eqb-true, eqb-same}
@@ -44,57 +46,53 @@ formed-masks r (keep c {us} {vs} m) f =
     (subst (λ (n : ℕ). 0 < n) (sym (formed-same (c .bytes) (flatten us) (flatten vs) (masks-under m) (r .1) (form-least c (flatten us) (r .1) (r .0)))) (f .0), formed-masks (r .2) m (f .1))
 formed-masks r (hide c n {us} {vs} e m) f = formed-hashes (suc n) vs (formed-masks (r .2) m (f .1))
 
-valid-skip : (u r : List ℕ) → validAfter (length u) (u ++ r) ≡ validAfter 0 r
-unfolding validAfter
-valid-skip [] r = refl
-valid-skip (b ∷ u) r = valid-skip u r
-
 -- the valid length by the first character
-valid-step : (b : ℕ) (u r : List ℕ) → wellFormed (b ∷ (u ++ r)) ≡ suc (length u) → validAfter 0 (b ∷ (u ++ r)) ≡ suc (length u) + validAfter 0 r
-unfolding validAfter
-valid-step b u r e = rw (e, validAfter) (ap (λ (n : ℕ). suc (length u) + n) (valid-skip u r))
+valid-front : (u r : List ℕ) → 0 < length u → wellFormed (u ++ r) ≡ length u → validLength (u ++ r) ≡ length u + validLength r
+valid-front [] r h e = absurd (omega arith)
+valid-front (b ∷ u) r h e = valid-cons (b ∷ (u ++ r)) (length u) (omega arith) e ∙ ap (λ (t : List ℕ). suc (length u) + validLength t) (drop-append-seam u r)
 
-valid-broken : (b : ℕ) (s : List ℕ) → wellFormed (b ∷ s) ≡ 0 → validAfter 0 (b ∷ s) ≡ 0
-unfolding validAfter
-valid-broken b s e = rw (e, validAfter)
+-- a character that is well-formed before one text is so before any
+pub valid-first : (c : Char) (r q : List ℕ) → 0 < width c → charAt (c .bytes ++ r) ≡ c → 0 < wellFormed (c .bytes ++ r) → validLength (c .bytes ++ q) ≡ width c + validLength q
+valid-first c r q h e k =
+    let w = form-width c r h e k in
+    let own = formed-own (c .bytes ++ r) (c .bytes ++ q) k (λ i l. List·getD-append (c .bytes) q 0 i (omega arith) ∙ sym (List·getD-append (c .bytes) r 0 i (omega arith))) in
+    valid-front (c .bytes) q h (own ∙ w)
 
-valid-first : (c : Char) (r : List ℕ) → 0 < width c → charAt (c .bytes ++ r) ≡ c → 0 < wellFormed (c .bytes ++ r) → validAfter 0 (c .bytes ++ r) ≡ width c + validAfter 0 r
-valid-first c r h e k = go (c .bytes) h (form-width c r h e k)
-  where
-    go : (u : List ℕ) → 0 < length u → wellFormed (u ++ r) ≡ length u → validAfter 0 (u ++ r) ≡ length u + validAfter 0 r
-    go [] h w = absurd (omega arith)
-    go (b ∷ u) h w = valid-step b u r w
-
-formed-length : (cs : List Char) → Read cs → Formed cs → validAfter 0 (flatten cs) ≡ length (flatten cs)
-unfolding validAfter
-formed-length [] r f = refl
-formed-length (c ∷ cs) r f = valid-first c (flatten cs) (r .1) (r .0) (f .0) ∙ ap (λ (n : ℕ). width c + n) (formed-length cs (r .2) (f .1)) ∙ sym (length-append (c .bytes) (flatten cs))
+-- well-formed characters before a text add their length to what is valid of it
+formed-append : (cs : List Char) (q : List ℕ) → Read cs → Formed cs → validLength (flatten cs ++ q) ≡ length (flatten cs) + validLength q
+formed-append [] q r f = omega arith
+formed-append (c ∷ cs) q r f =
+    let v = valid-first c (flatten cs) (flatten cs ++ q) (r .1) (r .0) (f .0) in
+    rw (append-assoc, length-append) (omega (arith, formed-append cs q (r .2) (f .1)))
 
 pub formed-valid : (cs : List Char) → Read cs → Formed cs → valid (flatten cs) ≡ true
-formed-valid cs r f = ap (λ (n : ℕ). eqb n (length (flatten cs))) (formed-length cs r f) ∙ eqb-same (length (flatten cs))
+formed-valid cs r f =
+    let e : validLength (flatten cs) ≡ length (flatten cs) = omega (arith, rw append-nil at (formed-append cs [] r f), valid-end [] 0 (omega arith)) in
+    rw e (eqb-same (length (flatten cs)))
 
-broken-first : (c : Char) (r : List ℕ) → 0 < width c → wellFormed (c .bytes ++ r) ≡ 0 → validAfter 0 (c .bytes ++ r) ≡ 0
-broken-first c r h e = go (c .bytes) h e
-  where
-    go : (u : List ℕ) → 0 < length u → wellFormed (u ++ r) ≡ 0 → validAfter 0 (u ++ r) ≡ 0
-    go [] h w = absurd (omega arith)
-    go (b ∷ u) h w = valid-broken b (u ++ r) w
-
-length-formed : (cs : List Char) → Read cs → validAfter 0 (flatten cs) ≡ length (flatten cs) → Formed cs
+length-formed : (cs : List Char) → Read cs → validLength (flatten cs) ≡ length (flatten cs) → Formed cs
 length-formed [] r e = tt
 length-formed (c ∷ cs) r e = go (wellFormed (c .bytes ++ flatten cs)) refl (λ k. length-formed cs (r .2) k)
   where
-    go : (w : ℕ) → wellFormed (c .bytes ++ flatten cs) ≡ w → (validAfter 0 (flatten cs) ≡ length (flatten cs) → Formed cs) → Formed (c ∷ cs)
+    go : (w : ℕ) → wellFormed (c .bytes ++ flatten cs) ≡ w → (validLength (flatten cs) ≡ length (flatten cs) → Formed cs) → Formed (c ∷ cs)
     go zero ew ih =
-        let b = broken-first c (flatten cs) (r .1) ew in
+        let b = valid-stop (c .bytes ++ flatten cs) ew in
         let l = length-append (c .bytes) (flatten cs) in
         let h = r .1 in
         absurd (omega arith)
     go (suc w) ew ih =
         let k : 0 < wellFormed (c .bytes ++ flatten cs) = omega arith in
-        let b = valid-first c (flatten cs) (r .1) (r .0) k in
+        let b = valid-first c (flatten cs) (flatten cs) (r .1) (r .0) k in
         let l = length-append (c .bytes) (flatten cs) in
         (k, ih (omega arith))
 
-pub valid-formed : (cs : List Char) → Read cs → valid (flatten cs) ≡ true → Formed cs
+valid-formed : (cs : List Char) → Read cs → valid (flatten cs) ≡ true → Formed cs
 valid-formed cs r e = length-formed cs r (eqb-true e)
+
+-- A text is valid exactly if each of its characters is well-formed.
+pub valid-chars : (s : List ℕ) → (valid s ≡ true) ↔ Formed (chars s)
+valid-chars s = (λ e. valid-formed (chars s) (read-chars s) (ap valid (flatten-chars s) ∙ e), λ f. rw flatten-chars at (formed-valid (chars s) (read-chars s) f))
+
+-- A valid text before another adds its length to what is valid of that.
+pub valid-append : (p q : List ℕ) → valid p ≡ true → validLength (p ++ q) ≡ length p + validLength q
+valid-append p q e = rw flatten-chars at (formed-append (chars p) q (read-chars p) (valid-chars p .0 e))

@@ -163,6 +163,13 @@ abbrev pub Fits : List Token → List ℕ → Type 0
 Fits [] s = s ≡ []
 Fits (t ∷ ts) s = (t .end - t .start ≤ length s) × Fit (t .kind) (take (t .end - t .start) s) × Fits ts (drop (t .end - t .start) s)
 
+-- texts that one list of tokens fits are of one length
+pub fits-length : (ts : List Token) (s t : List ℕ) → Fits ts s → Fits ts t → length s ≡ length t
+fits-length [] s t F G = ap length (F ∙ sym G)
+fits-length (x ∷ ts) s t F G =
+    let n : ℕ = x .end - x .start in
+    omega (arith, F .0, G .0, simp length-drop at (fits-length ts (drop n s) (drop n t) (F .2) (G .2)))
+
 -- the clauses of `hiddenIn`
 hidden-nil : (s : List ℕ) (i : ℕ) → hiddenIn [] s i ≡ false
 unfolding hiddenIn

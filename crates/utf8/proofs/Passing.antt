@@ -47,10 +47,11 @@ pass-more s i k {x} h p l =
     let e : (i + k) + 1 ≡ i + (k + 1) = omega arith in
     rw e at (pass-byte s i (i + k) (p (o .0)) h (o .1))
 
--- two blocks, one after the other
+-- two parts, one after the other, each where its test says so
 pub pass-and : (s : List ℕ) (i j k : ℕ) (a b : Bool) → (a ≡ true → Passes s i j) → (b ≡ true → Passes s j k) → (a && b) ≡ true → Passes s i k
 pass-and s i j k a b p q e = let h = and-both a b e in pass-on s i j k (p (h .0)) (q (h .1))
 
-pub pass-two : (s : List ℕ) (i n : ℕ) (a b : Bool) → (a ≡ true → Passes s i (i + n)) → (b ≡ true → Passes s (i + n) ((i + n) + n))
-    → (k : ℕ) → k ≡ (i + n) + n → (a && b) ≡ true → Passes s i k
-pass-two s i n a b p q k f e = rw f (pass-and s i (i + n) ((i + n) + n) a b p q e)
+-- two blocks of n bytes each
+pub pass-two : {s : List ℕ} {i k : ℕ} {a b : Bool} (n : ℕ) → (a ≡ true → Passes s i (i + n)) → (b ≡ true → Passes s (i + n) ((i + n) + n))
+    → k ≡ (i + n) + n → (a && b) ≡ true → Passes s i k
+pass-two {s} {i} {a} {b} n p q f e = rw f (pass-and s i (i + n) ((i + n) + n) a b p q e)
