@@ -13,7 +13,7 @@ use Rattle.rules.specs.Dollars.{tagByte}
 use Rattle.rules.proofs.Tests.{eqb-true}
 use Rattle.rules.proofs.Tables.{agree-at}
 use Rattle.rules.proofs.NumberBytes.{radix-high}
-use Rattle.runs.specs.Classes.{past, passes}
+use Rattle.runs.specs.Classes.{Ascii, past, inside, passes}
 use Rattle.lexer.specs.Words.{asciiWord}
 use Rattle.lexer.proofs.Classes.{ascii-agree, ascii-tag}
 
@@ -81,3 +81,13 @@ module _ (a : ℕ) (la : a < 0x80) (x : ℕ) where
       go true false e f = rw (lt-ltb x 0x80 (let q : x ≡ a = eqb-true e in omega arith))
       go false true e f = rw (lt-ltb x 0x80 (let q : x ≡ b = eqb-true f in omega arith))
       go false false e f = ap not (and-false (ltb x 0x80))
+
+-- the class of one byte
+abbrev pub one : ℕ → List ℕ
+one a = a ∷ (a + 1) ∷ 0 ∷ 0 ∷ 0 ∷ 0 ∷ 0 ∷ 0 ∷ []
+
+pub ascii-one : (a : ℕ) → a < 0x80 → Ascii (one a)
+ascii-one a h = (omega arith, (omega arith, (omega arith, (omega arith, (omega arith, (omega arith, (omega arith, (omega arith, tt))))))))
+
+pub inside-one : (a : ℕ) → a < 0x80 → (x : ℕ) → inside (one a) x ≡ eqb x a
+inside-one a h x = sym (Bool·not-not (inside (one a) x)) ∙ ap not (outside-one a h x) ∙ Bool·not-not (eqb x a)

@@ -1,10 +1,9 @@
 -- The search for a delimiter, and what `read_dollar` answers by the tag's end and by the search. Assumes nothing.
-use Prim.Native.Nat.{ℕ, _+_, _-_, _*_, _≤_, _<_}
+use Prim.Native.Nat.{ℕ, zero, suc, _+_, _-_, _*_, _≤_, _<_}
 use native.Mathlib.Omega.{arith}
-use mathlib.Core.Path.{_≡_, refl, sym, ap, _∙_}
+use mathlib.Core.Path.{_≡_, refl, sym, ap, _∙_, subst}
 use mathlib.Core.List.{List}
-use native.Mathlib.Decide.{decLt}
-use mathlib.Core.Bool.{false, not}
+use mathlib.Core.Bool.{Bool, true, false, not}
 use mathlib.Core.Option.{Option, some, none}
 use lib.ListN.{length, getD, drop}
 use lib.Dec.{eqb}
@@ -13,10 +12,10 @@ use Rattle.rules.specs.Utf8.{chars}
 use Rattle.rules.specs.Characters.{dollar}
 use Rattle.rules.specs.Kinds.{HereDoc, DollarSign}
 use Rattle.rules.specs.Dollars.{begins, find, hereDoc, dollarLexeme}
-use Rattle.rules.proofs.Tests.{clash}
+use Rattle.rules.proofs.Tests.{eqb-true}
 use Rattle.rules.proofs.Decoding.{within-text}
 use Rattle.rules.proofs.Dollars.{here-none}
-use Rattle.rules.proofs.HereDocs.{tags-none, opening, opening-first, opening-plain, opening-size, here-by, later, find-pass, no-dollar}
+use Rattle.rules.proofs.HereDocs.{tags-none, opening, opening-first, opening-plain, opening-size, here-by, later, begins-next, begins-differ, find-pass, no-dollar}
 use Rattle.runs.specs.Classes.{Skips}
 use Rattle.lexer.specs.declared.tokenizer.Lexed.{Lexed}
 use Rattle.lexer.specs.Ends.{endsAt}
@@ -40,6 +39,26 @@ pub search-over : (d : List ℕ) → getD d 0 0 ≡ dollar → (s : List ℕ) (i
 search-over d f s i j r =
     over (λ k. searched d s k ≡ searched d s i) (λ x. not (eqb x dollar)) s i j
     (λ k h e w. search-on d f s k h (no-dollar d f s k h (eqb-false (getD s k 0) dollar (not-true (eqb (getD s k 0) dollar) e))) ∙ w) r refl
+
+-- bytes among which no `$` stands before the delimiter's second byte are skipped
+module _ (d : List ℕ) (p : Delimiter d) (l : 1 < length d) (s : List ℕ) where
+  absent : (k : ℕ) → k < length s → (getD s k 0 ≡ dollar → getD s (k + 1) 0 ≡ getD d 1 0 → ⊥) → begins d (chars (drop k s)) ≡ false
+  absent k h n = go (eqb (getD s k 0) dollar) refl
+    where
+      go : (t : Bool) → eqb (getD s k 0) dollar ≡ t → begins d (chars (drop k s)) ≡ false
+      go false e = no-dollar d (p .0) s k h (eqb-false (getD s k 0) dollar e)
+      go true e =
+          let f : getD s k 0 ≡ dollar = eqb-true e in
+          begins-next d (p .1) s 0 k (omega arith) (f ∙ sym (p .0)) ∙ begins-differ d (p .1) s 1 (k + 1) l (n f)
+
+  pub pairs-over : (i j : ℕ) → i ≤ j → j ≤ length s → ((k : ℕ) → i ≤ k → k < j → getD s k 0 ≡ dollar → getD s (k + 1) 0 ≡ getD d 1 0 → ⊥) → searched d s j ≡ searched d s i
+  pairs-over i j h u n = let e : i + (j - i) ≡ j = omega arith in subst (λ (k : ℕ). searched d s k ≡ searched d s i) e (go (j - i) (omega arith))
+    where
+      go : (m : ℕ) → i + m ≤ j → searched d s (i + m) ≡ searched d s i
+      go zero q = let z : i + 0 ≡ i = omega arith in ap (searched d s) z
+      go (suc m) q =
+          let z : i + suc m ≡ i + m + 1 = omega arith in
+          ap (searched d s) z ∙ search-on d (p .0) s (i + m) (omega arith) (absent (i + m) (omega arith) (n (i + m) (omega arith) (omega arith))) ∙ go m (omega arith)
 
 -- The tag bytes after the `$` at `start` end at e.
 module _ (s : List ℕ) (start e : ℕ) (t : TagEnd s (start + 1) e) where

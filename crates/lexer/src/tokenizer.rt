@@ -4,6 +4,7 @@ use crate::token::Token;
 use classes::tables::AlphabeticTable;
 use classes::tables::NumericTable;
 use runs::Class;
+use runs::skip_pairs;
 use utf8::byte_at;
 use utf8::is_tail;
 use utf8::unit_at;
@@ -14,6 +15,7 @@ ghost use mathlib.Core.Bool.{Bool, true, false, not, cond, _&&_};
 ghost use Prim.Native.Nat.{_+_, _-_, _/_, _%_, _^_, _≤_, _<_};
 ghost use lib.ListN.{length, getD, take, drop};
 ghost use lib.Dec.{ltb, eqb};
+ghost use mathlib.Core.List.{[], _∷_};
 ghost use Rattle.rules.specs.Utf8.{charAt, chars};
 ghost use Rattle.rules.specs.Tables.{alphabeticTable, numericTable};
 ghost use Rattle.rules.specs.Classes.{whiteSpace, digit, hexDigit};
@@ -23,7 +25,7 @@ ghost use Rattle.rules.specs.Lexeme.{first, two, run, enclosed};
 ghost use Rattle.rules.specs.Spaces.{notLineFeed, commentBody};
 ghost use Rattle.rules.specs.Operators.{single, pair, spaceship};
 ghost use Rattle.rules.specs.Words.{startsWord, wordCharacter};
-ghost use Rattle.runs.specs.Classes.{Skips};
+ghost use Rattle.runs.specs.Classes.{edges, Skips};
 ghost use Rattle.rules.specs.Quotes.{quotedBody, upTo};
 ghost use Rattle.rules.specs.Dollars.{tagByte, begins, find, hereDoc, dollarLexeme};
 ghost use Rattle.rules.specs.Numbers.{digits, radixDigit, opening, fraction, marks, signs, exponent, numberWord, goesOn, allChars, closing, number};
@@ -587,17 +589,7 @@ fn skip_to(text: &[u8], at: usize, a: u8) -> usize
     if byte_at(text, at) == a {
         return at;
     }
-    let k = Class {
-        a,
-        b: a + 1,
-        c: 0,
-        d: 0,
-        e: 0,
-        f: 0,
-        g: 0,
-        h: 0,
-    };
-    runs::skip(text, at, true, k)
+    runs::skip(text, at, true, only(a))
 }
 
 // No byte of a longer character is a line feed, so bytes do.
@@ -1055,13 +1047,32 @@ fn matches(text: &[u8], at: usize, delimiter: &[u8]) -> bool
     true
 }
 
-// Where the first delimiter from `at` on ends, or 0.
+// The class of one byte.
+fn only(a: u8) -> Class
+    requires { ⌜ a < 0x80 ⌝ }
+    ensures { λ r. ⌜ edges r ≡ a ∷ (a + 1) ∷ 0 ∷ 0 ∷ 0 ∷ 0 ∷ 0 ∷ 0 ∷ [] ⌝ }
+{
+    Class {
+        a,
+        b: a + 1,
+        c: 0,
+        d: 0,
+        e: 0,
+        f: 0,
+        g: 0,
+        h: 0,
+    }
+}
+
+// Where the first delimiter from `at` on ends, or 0. Bytes among which no `$` stands before the delimiter's second byte are gone over by eights.
 fn find_delimiter(text: &[u8], at: usize, delimiter: &[u8]) -> usize
-    requires { ⌜ Delimiter (now delimiter) ⌝ }
+    requires { ⌜ Delimiter (now delimiter) × (1 < length (now delimiter)) ⌝ }
     ensures { λ r. ⌜ r ≡ foundEnd at (length (now (delimiter .entry))) (find (now (delimiter .entry)) (chars (drop at (now (text .entry))))) ⌝ }
 {
+    let second = delimiter[1];
     let mut i = at;
     while i < text.len() {
+        i = skip_pairs(text, i, only(b'$'), only(second));
         i = skip_to(text, i, b'$');
         if i == text.len() {
             break;

@@ -1,6 +1,6 @@
 -- A contract determines what comes back: any two results of one call that it allows are equal, and so is what each lent buffer holds afterwards.
 -- `ended` and `Learnt` are the toolchain's own for each function: how its parameters end, and what its contract tells a caller.
--- Every public function of the libraries is here but those that docs/PROMISES.md names: some leave a choice that no answer shows, and those of `forms` have no `Learnt`.
+-- Every public function of the libraries is here but those that docs/PROMISES.md names: some leave a choice that no answer shows, and the walked ones of `forms` have no `Learnt`.
 -- Assumes nothing.
 use Prim.Native.Nat.{ℕ, _/_, _%_, _^_}
 use mathlib.Core.Path.{_≡_, refl, sym, ap, _∙_}
@@ -20,6 +20,8 @@ use Rattle.lists.proofs.listing as listing
 use Rattle.lists.proofs.packed as packed
 use Rattle.lists.proofs.picks as picks
 use Rattle.lists.specs.declared.listing.Settings.{Settings}
+use Rattle.forms.proofs.reader as reader
+use Rattle.forms.proofs.records as records
 use Rattle.masking.proofs.copy as copy
 use Rattle.masking.proofs.parts as parts
 use Rattle.masking.proofs.places as places
@@ -177,6 +179,15 @@ tokenize κs a r s u v p q = lent (λ l. (tt, (tt, (l, tt)))) (one-answer r s _ 
 
 pub tokenize-up-to-position : Determined listing.tokenize_up_to_position.ended listing.tokenize_up_to_position.Reads.Learnt
 tokenize-up-to-position κs a r s u v p q = lent (λ l. (tt, (tt, (l, tt)))) (one-answer r s _ _ _ p q)
+
+pub read-all : Determined reader.read_all.ended reader.read_all.Reads.Learnt
+read-all κs a r s u v p q = lent (λ l. (tt, (l, tt))) (one-answer r s _ _ _ p q)
+
+pub records-sixty-four : Determined records.records_64.ended records.records_64.Reads.Learnt
+records-sixty-four κs a r s u v p q = (same p q, refl)
+
+pub records-sixty-four-up-to : Determined records.records_64_up_to.ended records.records_64_up_to.Reads.Learnt
+records-sixty-four-up-to κs a r s u v p q = (same p q, refl)
 
 pub keeps : Determined listing.Choice.keeps.ended listing.Choice.keeps.Reads.Learnt
 keeps κs a r s u v p q = (same p q, refl)

@@ -2,3 +2,4 @@
 pub mod Packed
 pub mod Lanes
 pub mod Firsts
+pub mod Pairs

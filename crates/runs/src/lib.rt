@@ -3,7 +3,7 @@ ghost use mathlib.Core.Path.{_≡_};
 ghost use mathlib.Core.Bool.{Bool, true, false, _&&_};
 ghost use Prim.Native.Nat.{ℕ, _+_, _-_, _*_, _≤_, _<_};
 ghost use lib.ListN.{length, getD};
-ghost use Rattle.runs.specs.Classes.{edges, Ascii, passes, Skips};
+ghost use Rattle.runs.specs.Classes.{edges, Ascii, inside, passes, Skips, Unpaired};
 ghost use Rattle.runs.specs.Lanes.{ones, packed, others};
 
 // A class of bytes of ASCII: from one edge on and below the next, of which there are four pairs. Two equal ones bound nothing.
@@ -77,4 +77,27 @@ pub fn skip(text: &[u8], at: usize, out: bool, k: Class) -> usize
         j += 8;
     }
     j
+}
+
+// True only if none of the eight bytes from i on is of the first class before one of the second.
+fn no_pairs(text: &[u8], i: usize, a: Class, b: Class) -> bool
+    requires { ⌜ (i + 9 ≤ length (now text)) × Ascii (edges a) × Ascii (edges b) ⌝ }
+    ensures { λ r. ⌜ (r ≡ true → (k : ℕ) → k < 8 → (inside (edges a) (getD (now (text .entry)) (i + k) 0) && inside (edges b) (getD (now (text .entry)) (i + 1 + k) 0)) ≡ false) ⌝ }
+{
+    (others(eight(text, i), a) | others(eight(text, i + 1), b)) == 0x8080_8080_8080_8080
+}
+
+// Over bytes none of which is of the first class before one of the second, eight at a time, but of the last eight perhaps none.
+pub fn skip_pairs(text: &[u8], at: usize, a: Class, b: Class) -> usize
+    requires { ⌜ (at ≤ length (now text)) × Ascii (edges a) × Ascii (edges b) ⌝ }
+    ensures { λ r. ⌜ Unpaired (inside (edges a)) (inside (edges b)) (now (text .entry)) at r ⌝ }
+{
+    let mut i = at;
+    while text.len() - i >= 9 {
+        if !no_pairs(text, i, a, b) {
+            return i;
+        }
+        i += 8;
+    }
+    i
 }

@@ -1,9 +1,11 @@
 -- `lexer::tokenizer::read_dollar` meets its contract. Assumes nothing.
+use native.Mathlib.Omega.{arith}
 use mathlib.Core.Path.{_≡_, sym, _∙_}
 use denote.Ref.{now}
 use borrow.Author.Needs.{needs}
 use lib.ListN.{getD}
 use Rattle.rules.specs.Characters.{dollar}
+use Rattle.rules.proofs.HereDocs.{opening-size}
 use Rattle.lexer.proofs.HereDocs.{no-tag, tag-closed, opens, not-found, here-found}
 use Rattle.lexer.proofs.tokenizer.read_dollar.Statement.{statement}
 use Rattle.lexer.proofs.tokenizer.read_dollar.Tie as tie
@@ -26,7 +28,12 @@ part-end c =
 find-delimiter-requires : tie.Need-find-delimiter-requires
 find-delimiter-requires c κs =
     let g = c .before .before .before .before .before in
-    opens (now (g .args .text)) (g .args .start) (c .before .before .before .tag-end .result) (c .before .before .before .tag-end .ensures) (g .pre .1) (closed (c .before))
+    let s = now (g .args .text) in
+    let t = c .before .before .before .tag-end in
+    let f = t .ensures .from in (
+      opens s (g .args .start) (t .result) (t .ensures) (g .pre .1) (closed (c .before)),
+      omega (arith, opening-size s (g .args .start) (t .result) f (g .pre .1) (t .ensures .tags) (closed (c .before))),
+    )
 
 returns-2 : tie.Need-returns-2
 returns-2 c =
