@@ -14,6 +14,10 @@ pub const OF_HERE_DOCS: [char; 4] = ['$', 'x', '#', '\''];
 /// The same for comments.
 pub const OF_COMMENTS: [char; 5] = ['/', '*', '-', '\n', 'a'];
 
+/// The characters that decide where a token ends, for texts at the end of a block.
+#[rustfmt::skip]
+pub const OF_EDGES: [char; 20] = ['a', '1', '_', '.', '\'', '$', '-', '/', '*', '\n', ' ', 'e', 'x', '=', '<', '>', 'é', 'ب', '\\', '"'];
+
 /// Every text of some length, in characters of the alphabet, a part of them at a time.
 pub fn every(length: u32) -> impl Iterator<Item = Vec<String>> {
     every_of(&ALPHABET, length)
@@ -26,6 +30,44 @@ pub fn every_of(characters: &[char], length: u32) -> impl Iterator<Item = Vec<St
     let count = base.pow(length);
     let text = move |i: usize| (0..length).map(|k| characters[i / base.pow(k) % base]).collect();
     (0..count).step_by(PART).map(move |from| (from..count.min(from + PART)).map(text).collect())
+}
+
+/// Plain tokens, whose edges the library takes from blocks of 64 bytes, where 72 bytes are left at least.
+const PLAIN: &str = "SELECT count, sum(amount) + 12 AS total FROM orders AS t, users2 GROUP BY user_id, 7 LIMIT 100 ";
+
+/// Where texts are put: around the end of the block that begins with a text's first byte.
+const OFFSETS: std::ops::RangeInclusive<usize> = 56..=72;
+
+/// A short text after some bytes of plain tokens and before others. What stands beside it is a space, or a word, a number, a dot, an operator
+/// or a string that it may go on with.
+fn within(r: &mut Random, short: &str, offset: usize) -> String {
+    let (last, next) = (r.one_of(&["  ", " a", " 1", "a.", " <", " '"]), r.one_of(&[" ", "a", "1", "' "]));
+    let before = &PLAIN[..offset - last.len()];
+    format!("{before}{last}{short}{next}{PLAIN}")
+}
+
+/// Every text of up to 3 characters of the alphabet, and of 4 of the characters that decide, from each of the offsets in a longer text, a part
+/// of them at a time, with their offset. All 41 characters would be 30 times as many texts of 4.
+pub fn at_the_end_of_a_block() -> impl Iterator<Item = (usize, Vec<String>)> {
+    let mut r = Random(0x0D95748F728EB658);
+    let short = (0..=3).flat_map(every).chain(every_of(&OF_EDGES, 4));
+    short.flat_map(|some| OFFSETS.map(move |offset| (offset, some.clone()))).map(move |(offset, some)| {
+        let long = some.iter().map(|short| within(&mut r, short, offset)).collect();
+        (offset, long)
+    })
+}
+
+/// A text of 60 to 2,000 bytes: stretches of plain tokens, up to a block long and longer, and up to 3 of the characters that decide after each.
+pub fn stretches(r: &mut Random) -> String {
+    let bytes = 60 + r.below(1941);
+    let mut text = String::new();
+    while text.len() < bytes {
+        let from = r.below(PLAIN.len());
+        text += &PLAIN[from..from + r.below(PLAIN.len() - from + 1)];
+        text.extend((0..r.below(4)).map(|_| r.one_of(&OF_EDGES)));
+    }
+    text.truncate(text.floor_char_boundary(bytes));
+    text
 }
 
 /// How many random texts a test takes: some, or 30 times as many where GIEHTAMUN_LONG is set.

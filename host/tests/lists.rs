@@ -133,6 +133,49 @@ fn random_texts() {
     println!("{n} random texts of {bytes} bytes, {broken} of them not UTF-8, all four lists: {compared} calls");
 }
 
+/// Blocks of 64 bytes must not show. There is room for the full list, or for a token for each byte.
+#[test]
+fn every_short_text_at_the_end_of_a_block() {
+    let mut r = Random(0x718BCD5882154AEE);
+    let (mut count, mut compared) = (0, 0);
+    for (offset, some) in texts::at_the_end_of_a_block() {
+        let mut calls = vec![];
+        for text in some.iter().map(|t| t.as_bytes()) {
+            let position = (offset + r.below(8)) as u64;
+            let lengths = [12 * tokens(&Call::list(Op::List, 0, 0, text, 0)), 12 * text.len()];
+            for mode in [0, 1] {
+                calls.push(Call::list(Op::List, mode, 0, text, r.one_of(&lengths)));
+                calls.push(Call::list(Op::ListUpTo, mode, position, text, r.one_of(&lengths)));
+            }
+        }
+        count += some.len();
+        compared += compare(&calls, calls.iter().map(want));
+    }
+    println!("{count} texts with a short text at the end of a block, all four lists: {compared} calls");
+}
+
+#[test]
+fn plain_stretches() {
+    let mut r = Random(0x7B54A41DC25A59B5);
+    let n = texts::how_many(30_000);
+    let (mut bytes, mut compared) = (0, 0);
+    for _ in 0..n / 100 {
+        let some: Vec<String> = (0..100).map(|_| texts::stretches(&mut r)).collect();
+        let mut calls = vec![];
+        for text in some.iter().map(|t| t.as_bytes()) {
+            bytes += text.len();
+            for mode in [0, 1] {
+                with_lengths(&mut calls, Op::List, mode, 0, text, [1, 2, 6]);
+                for _ in 0..3 {
+                    with_lengths(&mut calls, Op::ListUpTo, mode, r.below(text.len()) as u64, text, [r.below(8)]);
+                }
+            }
+        }
+        compared += compare(&calls, calls.iter().map(want));
+    }
+    println!("{n} texts of {bytes} bytes, of plain stretches, all four lists: {compared} calls");
+}
+
 #[test]
 fn texts_of_many_dollars() {
     let mut r = Random(0x636920D871574E69);

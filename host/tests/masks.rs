@@ -90,6 +90,29 @@ fn random_texts() {
 }
 
 #[test]
+fn every_short_text_at_the_end_of_a_block() {
+    let (mut count, mut compared) = (0, 0);
+    for (_, some) in texts::at_the_end_of_a_block() {
+        count += some.len();
+        compared += compare_copies(some.iter().flat_map(|text| with_lengths(text.as_bytes(), [2])));
+    }
+    println!("{count} texts with a short text at the end of a block: {compared} calls");
+}
+
+#[test]
+fn plain_stretches() {
+    let mut r = Random(0x9C30D5392AF26013);
+    let n = texts::how_many(100_000);
+    let (mut bytes, mut compared) = (0, 0);
+    for _ in 0..n / 100 {
+        let some: Vec<String> = (0..100).map(|_| texts::stretches(&mut r)).collect();
+        bytes += some.iter().map(String::len).sum::<usize>();
+        compared += compare_copies(some.iter().flat_map(|text| with_lengths(text.as_bytes(), [2])));
+    }
+    println!("{n} texts of {bytes} bytes, of plain stretches: {compared} calls");
+}
+
+#[test]
 fn texts_of_many_dollars() {
     let mut r = Random(0xA458FEA3F4933D7E);
     let n = texts::how_many(60);

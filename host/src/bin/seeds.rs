@@ -17,6 +17,8 @@ fn main() {
         let mut text = match i % 60 {
             0 => texts::dollars(&mut r, most),
             30 => tags(most / 2 + r.below(most / 2)) + &texts::random(&mut r),
+            // Most queries are too short for the blocks that the library lists by.
+            n if n % 3 == 1 => texts::stretches(&mut r),
             _ => texts::random(&mut r),
         };
         text.truncate(text.floor_char_boundary(most));

@@ -1,5 +1,6 @@
 //! Texts that are meant to be slow, most of them for the search of a here-document's end, and a search for worse ones.
-use crate::texts::{self, fitted};
+use crate::chosen::Chosen;
+use crate::texts::{self, fitted, tag_byte, TAG_BYTES};
 use crate::timing::best;
 use crate::{ours, rust};
 use host::{linked, Random};
@@ -10,9 +11,6 @@ const SIZES: [usize; 4] = [10_000, 30_000, 100_000, 1_000_000];
 /// Nothing runs that should take longer than this, in seconds.
 const LIMIT: f64 = 8.0;
 
-/// The bytes of a tag, letters first: a tag that starts with a digit would be read as a number, which takes each later `$` with it.
-const LETTERS: &str = "abcdefghijklmnopqrstuvwxyzABCDEFGHIJKLMNOPQRSTUVWXYZ0123456789_";
-
 /// What the search tries for lengths.
 const LENGTHS: [usize; 13] = [0, 1, 2, 3, 4, 6, 10, 20, 50, 100, 300, 1000, 4000];
 
@@ -20,7 +18,8 @@ const LENGTHS: [usize; 13] = [0, 1, 2, 3, 4, 6, 10, 20, 50, 100, 300, 1000, 4000
 type Text = (&'static str, fn(usize) -> String);
 
 #[rustfmt::skip]
-const TEXTS: [Text; 25] = [
+const TEXTS: [Text; 34] = [
+    ("SQL", sql),
     ("`$a0$a1$a2$`, each tag another", |size| numbered(size, |k| format!("$a{k}"))),
     ("the shortest tags, each another", |size| numbered(size, |k| format!("${}", shortest(k)))),
     ("random tags of 3 bytes", |size| random(size, 3)),
@@ -37,6 +36,14 @@ const TEXTS: [Text; 25] = [
     ("different tags, then as many bytes without `$`", |size| halves(size, |_| "word ".into())),
     ("different tags, then the same a letter longer", |size| halves(size, |k| format!("$a{k}_"))),
     ("different tags with a space after each", |size| numbered(size, |k| format!("$a{k}$ "))),
+    ("tags with up to 10 of 2 letters after", |size| Family { shared: 0, after: 10, letters: 2, gap: 0, bare: 0 }.text(size)),
+    ("the shortest tags, and each 5,000 bytes a string with one", |size| mixed(size, 5000, "$'$_q$'")),
+    ("the shortest tags, and each 100 bytes a here-document", |size| mixed(size, 100, "$_x$$_x$")),
+    ("strings of 1,000 bytes of `$a$b`, each with a tag after it", |size| wrapped(size, "'", "$a$b", 1000, "' ")),
+    ("strings of 10,000 bytes of `$a$b`, each with a tag after it", |size| wrapped(size, "'", "$a$b", 10_000, "' ")),
+    ("strings of 1,000 bytes of `$`, each with a tag after it", |size| wrapped(size, "'", "$", 1000, "' ")),
+    ("comments of 100 bytes of `$`, each with a tag after it", |size| wrapped(size, "/*", "$", 100, "*/")),
+    ("here-documents of 16 bytes of `$a$b`, each with a tag after it", |size| wrapped(size, "$_x$", "$a$b", 16, "$$_x$")),
     ("only `$`", |size| "$".repeat(size)),
     ("`$a$b$a$b$`", |size| "$a$b".repeat(size / 4)),
     ("`$ $ $`", |size| "$ ".repeat(size / 2)),
@@ -48,10 +55,8 @@ const TEXTS: [Text; 25] = [
     ("one string of escapes", |size| format!("'{}", "\\'".repeat(size / 2 - 1))),
 ];
 
-/// One of the first letters.
-fn letter(r: &mut Random, among: usize) -> &'static str {
-    let at = r.below(among);
-    &LETTERS[at..at + 1]
+fn sql(size: usize) -> String {
+    (texts::TEXTS[0].1)(&mut Random(0xBE5466CF34E90C6C), size)
 }
 
 /// Pieces by their number.
@@ -68,18 +73,34 @@ fn halves(size: usize, piece: impl Fn(usize) -> String) -> String {
 
 /// The k-th tag of those that start with a letter, the short ones first.
 fn shortest(k: usize) -> String {
-    let (mut rest, mut tag) = (k / 52, LETTERS[k % 52..][..1].to_string());
+    let (mut rest, mut tag) = (k / 52, TAG_BYTES[k % 52..][..1].to_string());
     while rest > 0 {
-        tag += &LETTERS[rest % 63..][..1];
+        tag += &TAG_BYTES[rest % 63..][..1];
         rest /= 63;
     }
     tag
 }
 
-/// Tags of random bytes, but for the first, which is a letter.
 fn random(size: usize, length: usize) -> String {
-    let mut r = Random(0x452821E638D01377);
-    numbered(size, |_| (1..length).fold(format!("${}", letter(&mut r, 52)), |tag, _| tag + letter(&mut r, 63)))
+    texts::tags(&mut Random(0x452821E638D01377), size, length)
+}
+
+/// The shortest tags, and something else after some bytes of them, again and again.
+fn mixed(size: usize, bytes: usize, other: &str) -> String {
+    let mut numbers = 0..;
+    numbered(size, |_| {
+        let mut piece = String::new();
+        while piece.len() < bytes {
+            piece += &format!("${}", shortest(numbers.next().unwrap()));
+        }
+        piece + other
+    })
+}
+
+/// Tags of their own, and before each some bytes of other tags between an opening and a closing.
+fn wrapped(size: usize, open: &str, tags: &str, bytes: usize, close: &str) -> String {
+    let before = format!("{open}{}{close}", tags.repeat(bytes / tags.len()));
+    numbered(size, |k| format!("{before}$_{}$ ", shortest(k)))
 }
 
 /// A family of texts, for the search: tags that differ, with some bytes before that all share and up to some random ones after, out of
@@ -99,7 +120,7 @@ impl Family {
         let gap = if self.gap == 0 { String::new() } else { format!("${}", " ".repeat(self.gap)) };
         let tags = numbered(size / 100 * (100 - self.bare), |k| {
             let tag = format!("${}{}", "a".repeat(self.shared), shortest(k));
-            (0..r.below(self.after + 1)).fold(tag, |tag, _| tag + letter(&mut r, self.letters)) + &gap
+            (0..r.below(self.after + 1)).fold(tag, |tag, _| tag + tag_byte(&mut r, self.letters)) + &gap
         });
         fitted(tags, size, || "word ".into())
     }
@@ -144,6 +165,12 @@ fn ours_takes(text: &str) -> f64 {
     best(|| linked::list(black_box(text), 0, &mut list))
 }
 
+/// What the others are divided by: the shortest of many runs over a second or so, since the machine may have other work for a while.
+fn sql_takes() -> f64 {
+    let text = sql(SIZES[3]);
+    (0..20).map(|_| ours_takes(&text)).fold(f64::MAX, f64::min)
+}
+
 fn rust_takes(text: &str) -> f64 {
     best(|| rust::full(black_box(text.as_bytes())))
 }
@@ -157,7 +184,16 @@ struct Time {
 
 impl Time {
     fn shown(self) -> String {
-        format!("{}{:.*}", if self.was_run { "" } else { "~" }, if self.seconds < 0.1 { 3 } else { 0 }, self.seconds * 1e3)
+        format!("{}{:.*}", self.mark(), if self.seconds < 0.1 { 3 } else { 0 }, self.seconds * 1e3)
+    }
+
+    /// What stands before a number that was reckoned.
+    fn mark(self) -> &'static str {
+        if self.was_run {
+            ""
+        } else {
+            "~"
+        }
     }
 }
 
@@ -184,24 +220,39 @@ fn times(make: impl Fn(usize) -> String, takes: fn(&str) -> f64) -> [Time; 4] {
     times.try_into().ok().unwrap()
 }
 
-fn row(name: &str, make: impl Fn(usize) -> String, sql: Time) -> [Time; 4] {
+fn row(name: &str, make: impl Fn(usize) -> String, sql: f64) {
     let (ours, theirs) = (times(&make, ours_takes), times(&make, rust_takes));
     let [a, b, c, d] = ours.map(Time::shown);
-    let multiple = format!("{}{:.1}", if ours[3].was_run { "" } else { "~" }, ours[3].seconds / sql.seconds);
-    println!("| {name:72} | {a:>12} | {b:>8} | {c:>8} | {d:>9} | {multiple:>9} | {:>15} |", theirs[3].shown());
-    ours
+    let (ours, theirs) = (ours[3], theirs[3]);
+    let multiple = format!("{}{:.1}", ours.mark(), ours.seconds / sql);
+    let ratio = format!("{}{:.2}", if ours.was_run { theirs.mark() } else { ours.mark() }, ours.seconds / theirs.seconds);
+    println!("| {name:72} | {a:>12} | {b:>8} | {c:>8} | {d:>9} | {multiple:>9} | {:>15} | {ratio:>6} |", theirs.shown());
 }
 
-pub fn tables() {
-    let of_sql = |size| (texts::TEXTS[0].1)(&mut Random(0xBE5466CF34E90C6C), size);
-    println!("\n### Bad texts: the full list, in ms\n");
-    println!("| {:72} | ours, 10,000 |   30,000 |  100,000 | 1,000,000 | times SQL | Rust, 1,000,000 |", "Text");
-    println!("|{:-<74}|-------------:|---------:|---------:|----------:|----------:|----------------:|", "");
-    let sql = Time { seconds: ours_takes(&of_sql(SIZES[3])), was_run: true };
-    row("SQL", of_sql, sql);
-    let hangs = TEXTS.map(|(name, make)| row(name, make, sql))[0];
-    let size = (0..4).rev().find(|i| hangs[*i].was_run && hangs[*i].seconds < 0.15).map_or(SIZES[0], |i| SIZES[i]);
-    let worst = worst_family(size);
-    row(&worst.name(), |size| worst.text(size), sql);
-    println!("\nThe last is the worst that a search over 120 families of texts found, at {size} bytes.");
+/// The greatest size at which different tags take us less than 0.15 seconds: a search over it ends soon.
+fn size_to_search() -> usize {
+    let hangs = times(TEXTS[1].1, ours_takes);
+    (0..4).rev().find(|i| hangs[*i].was_run && hangs[*i].seconds < 0.15).map_or(SIZES[0], |i| SIZES[i])
+}
+
+pub fn table(chosen: &Chosen) {
+    const TITLE: &str = "Bad texts, in ms";
+    let texts = chosen.of(TITLE, &TEXTS);
+    let searched = chosen.has(TITLE, "found");
+    if texts.is_empty() && !searched {
+        return;
+    }
+    println!("\n### {TITLE}\n");
+    println!("| {:72} | ours, 10,000 |   30,000 |  100,000 | 1,000,000 | times SQL | Rust, 1,000,000 |  ratio |", "Text");
+    println!("|{:-<74}|-------------:|---------:|---------:|----------:|----------:|----------------:|-------:|", "");
+    let sql = sql_takes();
+    for (name, make) in texts {
+        row(name, make, sql);
+    }
+    if searched {
+        let size = size_to_search();
+        let worst = worst_family(size);
+        row(&worst.name(), |size| worst.text(size), sql);
+        println!("\nThe last is the worst that a search over 120 families of texts found, at {size} bytes.");
+    }
 }

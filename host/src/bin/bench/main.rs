@@ -1,10 +1,14 @@
-//! Times against the Rust's, in one run, as tables in Markdown. docs/BENCH.md says what is measured and how.
+//! Times against the Rust's, in one run, as tables in Markdown. docs/BENCH.md says what is measured and how. Words choose rows (chosen.rs).
+#[cfg(all(linked, oracle))]
+mod chosen;
 #[cfg(all(linked, oracle))]
 mod hostile;
 #[cfg(all(linked, oracle))]
 mod ours;
 #[cfg(all(linked, oracle))]
 mod rust;
+#[cfg(all(linked, oracle))]
+mod short;
 #[cfg(all(linked, oracle))]
 mod sql;
 #[cfg(all(linked, oracle))]
@@ -16,14 +20,17 @@ mod timing;
 
 #[cfg(all(linked, oracle))]
 fn main() {
-    tables::table("Full list", tables::full);
-    tables::table("Lean list", tables::lean);
-    tables::table("Masked copy", tables::mask);
-    tables::table("Steps from edge to edge", tables::steps);
-    tables::table("Place of the last byte", tables::place);
-    tables::table("Test for UTF-8 alone", tables::valid);
-    tables::growth();
-    hostile::tables();
+    let chosen = &chosen::Chosen::by_words();
+    let (all, first) = (&texts::GROUPS[..], &texts::GROUPS[..1]);
+    tables::table(chosen, "Full list", all, tables::full);
+    tables::table(chosen, "Lean list", all, tables::lean);
+    tables::table(chosen, "Masked copy", all, tables::mask);
+    tables::table(chosen, "Steps from edge to edge", all, tables::steps);
+    tables::table(chosen, "Place of the last byte", first, tables::place);
+    tables::table(chosen, "Test for UTF-8 alone", first, tables::valid);
+    short::table(chosen);
+    tables::growth(chosen);
+    hostile::table(chosen);
 }
 
 #[cfg(not(linked))]

@@ -51,6 +51,11 @@ pub fn steps(text: &str) -> usize {
     tokens
 }
 
+/// The first token.
+pub fn step(text: &str) -> Token {
+    Tokenizer::new(text).next_token()
+}
+
 /// The line and the column of an offset.
 pub fn place(text: &[u8], offset: usize) -> (usize, usize) {
     let before = &text[..offset];

@@ -1,5 +1,6 @@
 //! The tables of times against the Rust's.
-use crate::texts::{Text, TEXTS};
+use crate::chosen::Chosen;
+use crate::texts::{Group, Text, TEXTS};
 use crate::timing::{race, Pair};
 use crate::{ours, rust};
 use host::{linked, oracle, reading, Random};
@@ -15,22 +16,38 @@ pub fn make(text: Text, number: usize, size: usize) -> Vec<u8> {
     made
 }
 
-/// One table: a row a text, and last the geometric mean of the ratios and the worst of them.
-pub fn table(title: &str, measure: impl Fn(&[u8]) -> Pair) {
-    println!("\n### {title}\n");
-    println!("| {:48} | ours, ms | Rust, ms | ours, MB/s | ratio |", "Text");
-    println!("|{:-<50}|---------:|---------:|-----------:|------:|", "");
-    let mut ratios = vec![];
-    for text in TEXTS {
-        let pair = measure(&make(text, 0, SIZE));
-        let (ours, theirs) = (pair.ours * 1e3, pair.theirs * 1e3);
-        println!("| {:48} | {ours:8.3} | {theirs:8.3} | {:10.0} | {:5.2} |", text.0, SIZE as f64 / pair.ours / 1e6, pair.ratio());
-        ratios.push(pair.ratio());
-    }
+/// The last rows of a table: the geometric mean of the ratios and the worst of them.
+pub fn mean_and_worst(ratios: &[f64]) -> [(&'static str, f64); 2] {
     let mean = (ratios.iter().map(|x| x.ln()).sum::<f64>() / ratios.len() as f64).exp();
-    let worst = ratios.iter().fold(0.0f64, |a, b| a.max(*b));
-    println!("| {:48} | {:8} | {:8} | {:10} | {mean:5.2} |", "geometric mean", "", "", "");
-    println!("| {:48} | {:8} | {:8} | {:10} | {worst:5.2} |", "worst", "", "", "");
+    [("geometric mean", mean), ("worst", ratios.iter().copied().fold(0.0, f64::max))]
+}
+
+/// One table of the rows that are chosen: a row a text, below the name of its group where there are several groups.
+pub fn table(chosen: &Chosen, title: &str, groups: &[Group], measure: impl Fn(&[u8]) -> Pair) {
+    let several = groups.len() > 1;
+    let mut ratios = vec![];
+    for (group, texts) in groups {
+        let texts = chosen.of(title, texts);
+        if ratios.is_empty() && !texts.is_empty() {
+            println!("\n### {title}\n");
+            println!("| {:48} | ours, ms | Rust, ms | ours, MB/s | ratio |", "Text");
+            println!("|{:-<50}|---------:|---------:|-----------:|------:|", "");
+        }
+        if several && !texts.is_empty() {
+            println!("| {:48} | {:8} | {:8} | {:10} | {:5} |", format!("**{group}**"), "", "", "", "");
+        }
+        for text in texts {
+            let pair = measure(&make(text, 0, SIZE));
+            let (ours, theirs) = (pair.ours * 1e3, pair.theirs * 1e3);
+            println!("| {:48} | {ours:8.3} | {theirs:8.3} | {:10.0} | {:5.2} |", text.0, SIZE as f64 / pair.ours / 1e6, pair.ratio());
+            ratios.push(pair.ratio());
+        }
+    }
+    if !ratios.is_empty() {
+        for (name, ratio) in mean_and_worst(&ratios) {
+            println!("| {name:48} | {:8} | {:8} | {:10} | {ratio:5.2} |", "", "", "");
+        }
+    }
 }
 
 pub fn full(text: &[u8]) -> Pair {
@@ -74,11 +91,16 @@ pub fn valid(text: &[u8]) -> Pair {
 }
 
 /// The full list of 1,000,000 bytes, as texts of each size: a text of its own each time, so that no processor learns a short one by heart.
-pub fn growth() {
-    println!("\n### Growth of the full list, in ns a byte\n");
+pub fn growth(chosen: &Chosen) {
+    const TITLE: &str = "Growth, in ns a byte";
+    let texts = chosen.of(TITLE, &TEXTS);
+    if texts.is_empty() {
+        return;
+    }
+    println!("\n### {TITLE}\n");
     println!("| {:48} | ours, 10,000 | 100,000 | 1,000,000 | last to first | Rust, 10,000 | 100,000 | 1,000,000 |", "Text");
     println!("|{:-<50}|-------------:|--------:|----------:|--------------:|-------------:|--------:|----------:|", "");
-    for text in TEXTS {
+    for text in texts {
         let [a, b, c] = [10_000, 100_000, 1_000_000].map(|size| {
             let texts: Vec<Vec<u8>> = (0..SIZE / size).map(|number| make(text, number, size)).collect();
             let mut list = ours::room(&texts[0]);

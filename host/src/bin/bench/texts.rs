@@ -21,6 +21,33 @@ pub const TEXTS: [Text; 13] = [
     ("here-documents", |r, size| fitted(String::new(), size, || here_document(r))),
 ];
 
+/// Texts of one thing, or of a few, again and again. Words have a space between them.
+pub const REPEATED: [Text; 18] = [
+    ("`'a' 'a' 'a'`", |_, size| again(size, "'a' ")),
+    ("`'a''a''a'`, one string", |_, size| again(size, "'a'")),
+    ("`--` and a line feed", |_, size| again(size, "--\n")),
+    ("only `$`", |_, size| again(size, "$")),
+    ("`$ $ $`", |_, size| again(size, "$ ")),
+    ("random tags of 3 bytes", |r, size| tags(r, size, 3)),
+    ("Arabic words, outside literals", |r, size| fitted(String::new(), size, || format!("{} ", letters(r, 'ب'..='غ', 9)))),
+    ("Hebrew words, outside literals", |r, size| fitted(String::new(), size, || format!("{} ", letters(r, 'א'..='ת', 9)))),
+    ("Cyrillic words, outside literals", |r, size| fitted(String::new(), size, || format!("{} ", letters(r, 'а'..='я', 9)))),
+    ("Georgian words, outside literals", |r, size| fitted(String::new(), size, || format!("{} ", letters(r, 'ა'..='ჰ', 9)))),
+    ("CJK words, outside literals", |r, size| fitted(String::new(), size, || format!("{} ", letters(r, '一'..='龥', 4)))),
+    ("words like `a1b2c3`", |r, size| fitted(String::new(), size, || format!("{} ", mixed_word(r, 5)))),
+    ("numbers of every form, in turn", numbers_in_turn),
+    ("numbers of every form, at random", |r, size| fitted(String::new(), size, || format!("{} ", number_of(r.below(FORMS), r)))),
+    ("short line comments", |r, size| fitted(String::new(), size, || format!("--{}\n", ascii(r, 4)))),
+    ("short block comments", |r, size| fitted(String::new(), size, || format!("/*{}*/", ascii(r, 4)))),
+    ("short comments of both kinds", |r, size| fitted(String::new(), size, || short_comment(r))),
+    ("short here-documents", |r, size| fitted(String::new(), size, || short_here_document(r))),
+];
+
+/// A group of texts, with its name.
+pub type Group = (&'static str, &'static [Text]);
+
+pub const GROUPS: [Group; 2] = [("texts", &TEXTS), ("one thing again and again", &REPEATED)];
+
 /// Goes on with pieces to a number of bytes. The last piece is cut at a character's edge, and spaces fill up what is left.
 pub fn fitted(mut text: String, size: usize, mut piece: impl FnMut() -> String) -> String {
     while text.len() < size {
@@ -29,6 +56,11 @@ pub fn fitted(mut text: String, size: usize, mut piece: impl FnMut() -> String) 
     text.truncate(text.floor_char_boundary(size));
     let missing = size - text.len();
     text + &" ".repeat(missing)
+}
+
+/// One piece, to a number of bytes.
+fn again(size: usize, piece: &str) -> String {
+    fitted(piece.repeat(size / piece.len()), size, || piece.into())
 }
 
 /// One token: its opening, as many pieces as fit, `x` for what is left, and its closing.
@@ -113,4 +145,58 @@ fn here_document(r: &mut Random) -> String {
     let tag = if r.below(2) == 0 { String::new() } else { word(r, 6) };
     let other = if r.below(4) == 0 { r.one_of(&[" $1", " $", " $other$", " $5.00"]) } else { "" };
     format!("${tag}${}{other}{} ${tag}$,\n", phrase(r, 12), phrase(r, 12))
+}
+
+/// The bytes of a tag, letters first: a tag that starts with a digit would be read as a number, which takes each later `$` with it.
+pub const TAG_BYTES: &str = "abcdefghijklmnopqrstuvwxyzABCDEFGHIJKLMNOPQRSTUVWXYZ0123456789_";
+
+/// One of a tag's first some bytes.
+pub fn tag_byte(r: &mut Random, among: usize) -> &'static str {
+    let at = r.below(among);
+    &TAG_BYTES[at..at + 1]
+}
+
+/// Tags of random bytes, but for the first, which is a letter.
+pub fn tags(r: &mut Random, size: usize, length: usize) -> String {
+    fitted(String::new(), size, || (1..length).fold(format!("${}", tag_byte(r, 52)), |tag, _| tag + tag_byte(r, 63)))
+}
+
+/// Letters with a digit after each.
+fn mixed_word(r: &mut Random, most: usize) -> String {
+    (0..1 + r.below(most)).map(|_| format!("{}{}", ascii(r, 1), r.below(10))).collect()
+}
+
+/// How many forms of numbers there are.
+const FORMS: usize = 6;
+
+/// A number of one form: plain, decimal, with an exponent, hexadecimal, with `_`, binary.
+fn number_of(form: usize, r: &mut Random) -> String {
+    match form {
+        0 => r.below(100_000).to_string(),
+        1 => format!("{}.{}", r.below(1000), r.below(1000)),
+        2 => format!("{}e-{}", 1 + r.below(99), r.below(30)),
+        3 => format!("0x{:x}", r.below(1 << 24)),
+        4 => format!("{}_{:03}", 1 + r.below(999), r.below(1000)),
+        _ => format!("0b{:b}", r.below(1 << 8)),
+    }
+}
+
+/// A number of each form, always in the same order.
+fn numbers_in_turn(r: &mut Random, size: usize) -> String {
+    let mut forms = (0..FORMS).cycle();
+    fitted(String::new(), size, || format!("{} ", number_of(forms.next().unwrap(), r)))
+}
+
+fn short_comment(r: &mut Random) -> String {
+    let body = ascii(r, 4);
+    if r.below(2) == 0 {
+        format!("--{body}\n")
+    } else {
+        format!("/*{body}*/")
+    }
+}
+
+fn short_here_document(r: &mut Random) -> String {
+    let tag: String = (0..r.below(3)).map(|_| tag_byte(r, 52)).collect();
+    format!("${tag}${}${tag}$ ", ascii(r, 4))
 }
