@@ -1,5 +1,5 @@
 //! Finds the oracle's files below ORACLE_SRC, and links the archives of the library: those in the folder GIEHTAMUN_ARCHIVES, which are
-//! for this machine, or, where the machine is x86-64, those that rt writes.
+//! for this machine, or, where the machine is x86-64, those that rt writes. On another machine without that folder it links none.
 use std::env::var;
 use std::path::Path;
 

@@ -1,6 +1,6 @@
-/* The x86-64 host of the static library, for machines where Rust cannot link it. It includes no header, since such a machine has
-   none for x86-64. Standard input: calls, each a head, its text, and the memory before the call. Standard output: for each call the
-   answer, a u64, and the memory after it. */
+/* A host of the static library in a program of its own, for a machine that may be another than the one it is compiled on. It includes no
+   header, since that one may have none for it. Standard input: calls, each a head, its text, and the memory before the call. Standard
+   output: for each call the answer, a u64, and the memory after it. */
 typedef unsigned char u8;
 typedef unsigned int u32;
 typedef unsigned long u64;

@@ -1,23 +1,27 @@
-//! The library in an x86-64 program of its own (host/bridge), for machines where Rust cannot link it.
+//! The library in a program of its own (host/bridge): rt's own archive, which is x86-64 code, or its LLVM module compiled for Arm.
 use crate::{Answer, Call};
+use std::env::{consts::ARCH, var};
 use std::io::Write;
+use std::path::Path;
 use std::process::{Command, Stdio};
 
-/// The program, under the kit's loader and, where the machine is not x86-64, its emulator.
+/// The program for the machine that GIEHTAMUN_BRIDGE names, or for x86-64. For x86-64 it runs under the kit's loader and, where this machine is
+/// another, the kit's emulator. For Arm it needs no loader, and the emulator is Debian's.
 fn program() -> Command {
-    let home = std::env::var("RATTLE_HOME").expect("RATTLE_HOME: the folder of the Rattle kit, which ./test sets");
-    let tools = format!("{home}/on/{}/toolchain", std::env::consts::ARCH);
-    let loader = format!("{tools}/lib/ld-linux-x86-64.so.2");
-    let emulator = format!("{tools}/bin/qemu-x86_64");
-    let mut command = if std::path::Path::new(&emulator).exists() {
-        let mut c = Command::new(emulator);
-        c.arg(loader);
-        c
+    let machine = var("GIEHTAMUN_BRIDGE").unwrap_or("x86_64".into());
+    let mut words = vec![];
+    if machine == "x86_64" {
+        let home = var("RATTLE_HOME").expect("RATTLE_HOME: the folder of the Rattle kit, which ./test sets");
+        let tools = format!("{home}/on/{ARCH}/toolchain");
+        let emulator = format!("{tools}/bin/qemu-x86_64");
+        words.extend(Path::new(&emulator).exists().then_some(emulator));
+        words.extend([format!("{tools}/lib/ld-linux-x86-64.so.2"), "--library-path".into(), format!("{tools}/lib")]);
     } else {
-        Command::new(loader)
-    };
-    command.args(["--library-path", &format!("{tools}/lib")]);
-    command.arg(concat!(env!("CARGO_MANIFEST_DIR"), "/../target/bridge/bridge"));
+        words.push(format!("qemu-{machine}"));
+    }
+    words.push(format!("{}/../target/bridge/{machine}", env!("CARGO_MANIFEST_DIR")));
+    let mut command = Command::new(&words[0]);
+    command.args(&words[1..]);
     command
 }
 

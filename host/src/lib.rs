@@ -1,5 +1,5 @@
-//! The oracle, a second reading of document 01, and two ways to the proved library: linked, where there is an archive for this machine
-//! (build.rs), or through the bridge, which runs anywhere.
+//! The oracle, a second reading of document 01, and two ways to the proved library: the archive for this machine, which is linked (build.rs), and
+//! the bridge, which has one for this machine or another.
 pub mod bridge;
 #[cfg(linked)]
 pub mod linked;
@@ -77,12 +77,15 @@ pub struct Answer {
     pub memory: Vec<u8>,
 }
 
-/// The answers to some calls, by whichever way this machine has.
+/// The answers to some calls, by the linked library.
+#[cfg(linked)]
 pub fn ask(calls: &[Call]) -> Vec<Answer> {
-    #[cfg(linked)]
-    return calls.iter().map(linked::call).collect();
-    #[cfg(not(linked))]
-    return bridge::ask(calls);
+    calls.iter().map(linked::call).collect()
+}
+
+#[cfg(not(linked))]
+pub fn ask(_: &[Call]) -> Vec<Answer> {
+    panic!("no archives for this machine: GIEHTAMUN_ARCHIVES, which ./test sets, names the folder of those that tools/native makes");
 }
 
 /// Asks, and holds each answer to what it should be; the number of calls.

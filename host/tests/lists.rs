@@ -1,6 +1,6 @@
 //! The listings, through the C functions, against the Rust: what they answer, what they write, and what they do not write.
 #![cfg(oracle)]
-use host::{bridge, compare, oracle, reading, texts, Answer, Call, Op, Random};
+use host::{compare, oracle, reading, texts, Answer, Call, Op, Random};
 
 fn want(call: &Call) -> Answer {
     reading::listing(call, || oracle::asked(call))
@@ -222,22 +222,4 @@ fn sizes() {
         }
     }
     println!("texts of 999,999, 1,000,000 and 1,000,001 bytes: {compared} calls");
-}
-
-/// The bridge answers as whatever `ask` uses on this machine.
-#[test]
-fn the_bridge_agrees() {
-    let mut r = Random(0xA4093822299F31D0);
-    let mut texts: Vec<Vec<u8>> = (0..2000).map(|_| texts::random(&mut r).into_bytes()).collect();
-    texts.push(vec![b'+'; 1_000_000]);
-    let mut calls = vec![];
-    for text in &texts {
-        let at = r.below(text.len() + 2) as u64;
-        for mode in [0, 1] {
-            with_lengths(&mut calls, Op::List, mode, 0, text, [1, 2, 6]);
-            with_lengths(&mut calls, Op::ListUpTo, mode, at, text, [1, 2, 6]);
-        }
-        calls.push(Call::read(Op::Step, at, text));
-    }
-    println!("the bridge: {} calls", compare(&calls, bridge::ask(&calls)));
 }

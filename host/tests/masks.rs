@@ -1,6 +1,6 @@
 //! Masked copies, through the C function, against document 01's hidden bytes over the Rust's lists; and the Rust lists each copy as its text.
 #![cfg(oracle)]
-use host::{ask, bridge, compare, compared, oracle, reading, texts, Answer, Call, Random, Triple};
+use host::{ask, compare, compared, oracle, reading, texts, Answer, Call, Random, Triple};
 
 fn list(text: &[u8]) -> Vec<Triple> {
     oracle::full(std::str::from_utf8(text).expect("a text that is masked, and its copy, are UTF-8"))
@@ -212,14 +212,4 @@ fn the_same_copy_of_altered_texts() {
     }
     assert!(!counts.contains(&0));
     println!("{n} random texts, each with up to 3 characters altered: {} with the same copy, {} without", counts[1], counts[0]);
-}
-
-/// The bridge answers as whatever `ask` uses on this machine.
-#[test]
-fn the_bridge_agrees() {
-    let mut r = Random(0x2FFD72DBD01ADFB7);
-    let mut texts: Vec<Vec<u8>> = (0..2000).map(|_| texts::random(&mut r).into_bytes()).collect();
-    texts.push(vec![b'\''; 1_000_000]);
-    let calls: Vec<Call> = texts.iter().flat_map(|text| with_lengths(text, 0..4)).collect();
-    println!("the bridge: {} calls", compare(&calls, bridge::ask(&calls)));
 }

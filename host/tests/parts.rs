@@ -1,5 +1,5 @@
 //! Token text, shown text and places, through the C functions, against the second reading.
-use host::{bridge, compare, reading, texts, Answer, Call, Op, Random};
+use host::{compare, reading, texts, Answer, Call, Op, Random};
 
 /// What document 01 has for these, by the second reading: they write nothing.
 fn want(call: &Call) -> Answer {
@@ -147,19 +147,4 @@ fn sizes() {
         }
     }
     println!("texts of 999,999, 1,000,000 and 1,000,001 bytes: {compared} calls");
-}
-
-/// The bridge answers as whatever `ask` uses on this machine.
-#[test]
-fn the_bridge_agrees() {
-    let mut r = Random(0x801F2E2858EFC16);
-    let mut texts: Vec<Vec<u8>> = (0..2000).map(|_| texts::random(&mut r).into_bytes()).collect();
-    texts.push(vec![b'\n'; 1_000_000]);
-    let mut calls = vec![];
-    for text in &texts {
-        let [start, end] = [(); 2].map(|_| r.below(text.len() + 2) as u64);
-        calls.push(Call::read(Op::Place, end, text));
-        parts(&mut calls, text, start.min(end), end, [r.below(50) as u32]);
-    }
-    println!("the bridge: {} calls", compare(&calls, bridge::ask(&calls)));
 }

@@ -1,5 +1,5 @@
 //! Decoding against the Rust library's own: `from_utf8`, and the first character of what it accepts.
-use host::{ask, bridge, Call, Op, Random};
+use host::{ask, Call, Op, Random};
 
 /// The code of a broken byte, and of none.
 const NO_CODE: u64 = 0x110000;
@@ -127,12 +127,4 @@ fn a_cursor_far_beyond_the_text() {
         let got: Vec<u64> = ask(&calls).iter().map(|a| a.answer).collect();
         assert_eq!(got, [NO_CODE, 0]);
     }
-}
-
-/// The bridge answers as whatever `ask` uses on this machine.
-#[test]
-fn the_bridge_agrees() {
-    let texts = random_texts(500);
-    let calls: Vec<Call> = texts.iter().map(|text| Call::read(Op::ValidLength, 0, text)).collect();
-    assert_eq!(bridge::ask(&calls), ask(&calls));
 }

@@ -1,0 +1,82 @@
+//! The library in the bridge against the linked one: the same answers, byte for byte. On x86-64 rt's own archive is linked, and the bridge has it
+//! too or, where GIEHTAMUN_BRIDGE is aarch64, its LLVM module compiled for Arm. On Arm that module is linked, and the bridge has rt's own archive.
+use host::{ask, bridge, compare, reading, texts, Call, Op, Random};
+
+/// Calls for a list with buffers of some lengths: none, a byte short, just enough, and a token for each byte of the text.
+fn lists<'a>(calls: &mut Vec<Call<'a>>, op: Op, mode: u32, position: u64, text: &'a [u8]) {
+    let without = Call::list(op, mode, position, text, 0);
+    let tokens = match ask(&[without])[0].answer {
+        refused if refused >> 56 == 3 => refused as u32 as usize,
+        _ => 0,
+    };
+    let lengths = [0, (12 * tokens).saturating_sub(1), 12 * tokens, 12 * text.len()];
+    calls.extend(lengths.map(|lent| Call::list(op, mode, position, text, lent)));
+}
+
+/// Calls of each function for a text, at a few of its places: the token from anywhere, and any other part.
+fn calls<'a>(r: &mut Random, text: &'a [u8]) -> Vec<Call<'a>> {
+    let length = text.len();
+    let any = |r: &mut Random| r.below(length + 2) as u64;
+    let mut calls = vec![Call::read(Op::ValidLength, 0, text)];
+    for mode in [0, 1, 2] {
+        lists(&mut calls, Op::List, mode, 0, text);
+        lists(&mut calls, Op::ListUpTo, mode, any(r), text);
+    }
+    calls.extend([0, length.saturating_sub(1), length, length + 25].map(|lent| Call::mask(text, lent)));
+    for _ in 0..3 {
+        let (kind, start, end) = reading::token_at(text, r.below(length + 1));
+        for (kind, start, end) in [(kind, start as u64, end as u64), (r.below(50) as u32, any(r), any(r))] {
+            calls.extend([Op::Step, Op::Place, Op::CodeAt, Op::LengthAt].map(|op| Call::read(op, start, text)));
+            calls.push(Call::token_text(text, start, end));
+            calls.extend([length, length + 1].map(|lent| Call::shown_text(text, lent, kind, start, end)));
+        }
+        let codes = r.one_of(&[0x3000, 0x110000]);
+        let code = r.below(codes) as u64;
+        calls.extend([Op::IsWhiteSpace, Op::IsAlphabetic, Op::IsAlphanumeric].map(|op| Call::read(op, code, &[])));
+    }
+    calls
+}
+
+/// A text, one of four damaged: a query mostly; of plain stretches, which the library takes in blocks; or with so many `$` that it looks ahead.
+fn text(r: &mut Random, i: usize) -> Vec<u8> {
+    let text = match i % 100 {
+        0 => texts::dollars(r, 20_000),
+        1..=20 => texts::stretches(r),
+        _ => texts::random(r),
+    };
+    if r.below(4) == 0 {
+        texts::damaged(r, &text)
+    } else {
+        text.into_bytes()
+    }
+}
+
+#[test]
+fn random_texts() {
+    let mut r = Random(0xA4093822299F31D0);
+    let n = texts::how_many(20_000);
+    let (mut bytes, mut broken, mut compared) = (0, 0, 0);
+    for _ in 0..n / 100 {
+        let some: Vec<Vec<u8>> = (0..100).map(|i| text(&mut r, i)).collect();
+        bytes += some.iter().map(Vec::len).sum::<usize>();
+        broken += some.iter().filter(|text| std::str::from_utf8(text).is_err()).count();
+        let all: Vec<Call> = some.iter().flat_map(|text| calls(&mut r, text)).collect();
+        compared += compare(&all, bridge::ask(&all));
+    }
+    println!("the bridge: {n} random texts of {bytes} bytes, {broken} of them not UTF-8: {compared} calls");
+}
+
+#[test]
+fn sizes() {
+    let mut r = Random(0x801F2E2858EFC16);
+    let mut compared = 0;
+    for length in [1_000_000, 1_000_001] {
+        for part in ["+", "\n", "'", "$a"] {
+            let mut text = part.repeat(length / part.len()).into_bytes();
+            text.resize(length, b'a');
+            let all = calls(&mut r, &text);
+            compared += compare(&all, bridge::ask(&all));
+        }
+    }
+    println!("the bridge: texts of 1,000,000 and 1,000,001 bytes: {compared} calls");
+}
