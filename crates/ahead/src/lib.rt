@@ -1,4 +1,4 @@
-// The tokens of a text one after another, in a time that no text makes the square of its length.
+// The tokens of a text one after another, with few searches that find nothing: docs/BENCH.md has what the worst known texts take.
 //
 // A search for a here-document's end that finds nothing goes over the whole rest of the text, and a text can ask for many such searches. So the
 // bytes that were searched in vain are counted, and now and then one pass over the rest of the text finds out for many `$` at once that they begin no
