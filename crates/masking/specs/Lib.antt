@@ -1,5 +1,3 @@
 -- What the contracts say beside the rules.
 pub mod Spans
-pub mod Placed
-pub mod Feeds
 pub mod Walks

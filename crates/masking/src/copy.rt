@@ -1,5 +1,4 @@
 // The masked copy: the text with each hidden byte replaced, in lent bytes. It has the text's tokens.
-use crate::parts::hides;
 use ahead::LOOK_AFTER;
 use ahead::look_ahead;
 use ahead::wasted_by;
@@ -13,6 +12,7 @@ use lexer::syntax_kind::SyntaxKind;
 use rules::answer::Answer;
 use rules::mask_byte;
 use rules::max_query_size;
+use spans::parts::hides;
 use utf8::byte_at;
 use utf8::valid_length;
 ghost use mathlib.Core.Path.{_≡_};

@@ -23,8 +23,8 @@ use Rattle.lists.specs.declared.listing.Settings.{Settings}
 use Rattle.forms.proofs.reader as reader
 use Rattle.forms.proofs.records as records
 use Rattle.masking.proofs.copy as copy
-use Rattle.masking.proofs.parts as parts
-use Rattle.masking.proofs.places as places
+use Rattle.spans.proofs.parts as parts
+use Rattle.spans.proofs.places as places
 use Rattle.giehtamun.proofs as giehtamun
 use Rattle.promises.specs.Determined.{Determined, DeterminedAs}
 

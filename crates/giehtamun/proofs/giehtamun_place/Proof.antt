@@ -3,7 +3,7 @@ use borrow.Author.Needs.{needs}
 use mathlib.Core.Path.{ap, _∙_}
 use denote.Ref.{now}
 use Rattle.rules.proofs.Bounds.{small-place}
-use Rattle.masking.specs.declared.places.Placed.{Placed}
+use Rattle.spans.specs.declared.places.Placed.{Placed}
 use Rattle.giehtamun.specs.Packed.{packedLine}
 use Rattle.giehtamun.proofs.giehtamun_place.Statement.{statement}
 use Rattle.giehtamun.proofs.giehtamun_place.Tie as tie

@@ -1,0 +1,2 @@
+-- Line feeds.
+pub mod Feeds

@@ -1,0 +1,32 @@
+-- `masking::places::place` meets its contract: the tests are document 01's, in its order. Assumes nothing.
+use mathlib.Core.Path.{_≡_}
+use mathlib.Core.Bool.{false}
+use denote.Ref.{now}
+use borrow.Author.Needs.{needs}
+use borrow.Author.Tests.{lt-ltb, le-ltb}
+use Rattle.rules.specs.Limits.{maxQuerySize}
+use Rattle.rules.specs.Answers.{tooLong, placeAt}
+use Rattle.spans.proofs.places.place.Statement.{statement}
+use Rattle.spans.proofs.places.place.Tie as tie
+
+returns : tie.Need-returns
+unfolding placeAt
+returns c = rw (lt-ltb maxQuerySize _ (rw (c .before .max-query-size .ensures) at (c .if1 .taken)))
+
+-- past the first test
+short : (c : tie.Else1) → tooLong (now (c .before .before .before .args .text)) ≡ false
+short c = le-ltb maxQuerySize _ (rw (c .before .max-query-size .ensures) at (c .if1 .left))
+
+returns-2 : tie.Need-returns-2
+unfolding placeAt
+returns-2 c = rw (short (c .before), lt-ltb _ _ (c .if2 .taken))
+
+returns-3 : tie.Need-returns-3
+unfolding placeAt
+returns-3 c =
+    let e = c .before .before in
+    rw (short (e .before), le-ltb _ _ (e .if2 .left), c .before .line-of .ensures, c .column-of .ensures)
+
+pub place-spec : {M : Type 1} → statement M
+place-spec =
+    tie.close (tie.spec (λ c κs. search needs) returns returns-2 (λ c κs. search needs) (λ c κs. search needs) returns-3)
