@@ -36,10 +36,11 @@ marked until words at = cond (ltb at until) true (cond (leb (length words) ((at 
 abbrev pub Marked : List ℕ → ℕ → ℕ → List ℕ → Type 0
 Marked s from until words = (at : ℕ) → from ≤ at → marked until words at ≡ true → Lone s at
 
--- After so many bytes that were searched in vain it pays to look ahead.
+-- When the searches in vain count for so much, it pays to look ahead.
 abbrev pub lookAfter : ℕ
-lookAfter = 1000000
+lookAfter = 125000
 
--- How many bytes of a text a token's search went over in vain: bit 38 of its number says that it did, and it went from its end to the text's.
+-- What a token's search counts for: bit 38 of its number says that it was in vain, and it went from the token's end to the text's. The longer the text,
+-- the less a byte counts.
 abbrev pub wastedBy : ℕ → ℕ → ℕ
-wastedBy lexed size = cond (eqb (lexed / 2 ^ 38 % 2) 0) 0 (size - lexed % 2 ^ 32)
+wastedBy lexed size = cond (eqb (lexed / 2 ^ 38 % 2) 0) 0 ((size - lexed % 2 ^ 32) / (size / 40000 + 1))

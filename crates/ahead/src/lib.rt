@@ -418,7 +418,9 @@ fn is_closed(text: &[u8], at: usize) -> bool {
     false
 }
 
-// How many bytes of a text of `size` bytes were searched in vain for a here-document's end: bit 38 says that it was so, from the token on.
+// What a search in vain for a here-document's end counts for, in a text of `size` bytes: bit 38 says that there was one, from the token's end on. A look
+// takes longer in a longer text, so a byte there counts for less: after 125,000 bytes of a short text, and some three times its length of a long one, a
+// look has cost less than the searches.
 pub fn wasted_by(lexed: u64, size: usize) -> usize
     ensures { λ r. ⌜ (r ≡ wastedBy lexed size) × (r ≤ size) ⌝ }
 {
@@ -428,11 +430,11 @@ pub fn wasted_by(lexed: u64, size: usize) -> usize
     if size < end_of(lexed) {
         return 0;
     }
-    size - end_of(lexed)
+    (size - end_of(lexed)) / (size / 40_000 + 1)
 }
 
-// After so many bytes that were searched in vain it pays to look ahead.
-pub const LOOK_AFTER: usize = 1_000_000;
+// When the searches in vain count for so much, it pays to look ahead.
+pub const LOOK_AFTER: usize = 125_000;
 
 // The token at a `$`, as `lexer::tokenizer::next_token` has it. `until` and `lone` are what the last look gave, and at first 0 and no bits.
 pub fn read_dollar(text: &[u8], start: usize, until: usize, lone: &[u64]) -> u64
