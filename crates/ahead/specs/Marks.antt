@@ -43,4 +43,4 @@ lookAfter = 125000
 -- What a token's search counts for: bit 38 of its number says that it was in vain, and it went from the token's end to the text's. The longer the text,
 -- the less a byte counts.
 abbrev pub wastedBy : ℕ → ℕ → ℕ
-wastedBy lexed size = cond (eqb (lexed / 2 ^ 38 % 2) 0) 0 ((size - lexed % 2 ^ 32) / (size / 40000 + 1))
+wastedBy lexed size = cond (eqb (lexed / 2 ^ 38 % 2) 0) 0 ((size - lexed % 2 ^ 32) / (size / 20000 + 1))

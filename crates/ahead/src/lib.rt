@@ -419,8 +419,8 @@ fn is_closed(text: &[u8], at: usize) -> bool {
 }
 
 // What a search in vain for a here-document's end counts for, in a text of `size` bytes: bit 38 says that there was one, from the token's end on. A look
-// takes longer in a longer text, so a byte there counts for less: after 125,000 bytes of a short text, and some three times its length of a long one, a
-// look has cost less than the searches.
+// takes longer in a longer text, so a byte there counts for less: after 125,000 bytes of a short text, or some six times the length of a long one, a look
+// costs no more than the searches did.
 pub fn wasted_by(lexed: u64, size: usize) -> usize
     ensures { λ r. ⌜ (r ≡ wastedBy lexed size) × (r ≤ size) ⌝ }
 {
@@ -430,7 +430,7 @@ pub fn wasted_by(lexed: u64, size: usize) -> usize
     if size < end_of(lexed) {
         return 0;
     }
-    (size - end_of(lexed)) / (size / 40_000 + 1)
+    (size - end_of(lexed)) / (size / 20_000 + 1)
 }
 
 // When the searches in vain count for so much, it pays to look ahead.

@@ -11,7 +11,7 @@ use Rattle.ahead.proofs.wasted_by.Statement.{statement}
 use Rattle.ahead.proofs.wasted_by.Tie as tie
 
 abbrev counts : ℕ → ℕ → ℕ
-counts size end = (size - end) / (size / 40000 + 1)
+counts size end = (size - end) / (size / 20000 + 1)
 
 none : (lexed size : ℕ) → lexed / 2 ^ 38 % 2 ≡ 0 → wastedBy lexed size ≡ 0
 none lexed size e = ap (λ (b : Bool). cond b 0 (counts size (lexed % 2 ^ 32))) (eq-eqb (lexed / 2 ^ 38 % 2) 0 e)
@@ -29,16 +29,16 @@ wasted-by-spec =
     (λ c.
     let a = c .before .before .before .args in
     let e = c .before .end-of .result in (
-      sym (some (a .lexed) (a .size) e (c .before .before .if1 .left) (c .before .end-of .ensures) ∙ omega (arith, div-le-self (a .size - e) (a .size / 40000 + 1), c .if2 .taken)),
+      sym (some (a .lexed) (a .size) e (c .before .before .if1 .left) (c .before .end-of .ensures) ∙ omega (arith, div-le-self (a .size - e) (a .size / 20000 + 1), c .if2 .taken)),
       omega arith,
     ))
     (λ c κs. search needs)
     (λ c. omega (arith, c .before .before .end-of .ensures, c .end-of2 .ensures, c .before .if2 .left))
     (λ c. omega arith)
-    (λ c. omega (arith, div-le-self (c .before .before .before .before .args .size - c .end-of2 .result) (c .before .before .before .before .args .size / 40000 + 1)))
+    (λ c. omega (arith, div-le-self (c .before .before .before .before .args .size - c .end-of2 .result) (c .before .before .before .before .args .size / 20000 + 1)))
     (λ c.
     let a = c .before .before .before .before .args in
     let e = c .end-of2 .result in (
       sym (some (a .lexed) (a .size) e (c .before .before .before .if1 .left) (c .end-of2 .ensures)),
-      omega (arith, div-le-self (a .size - e) (a .size / 40000 + 1)),
+      omega (arith, div-le-self (a .size - e) (a .size / 20000 + 1)),
     )))
