@@ -3,7 +3,7 @@ use giehtamun::*;
 use std::thread::Builder;
 
 /// What a thread takes for itself, and the crate for its vectors.
-const OWN: usize = 16_000;
+const OWN: usize = 24_000;
 
 fn within(kilobytes: usize, text: String, calls: fn(&[u8])) {
     Builder::new().stack_size(kilobytes * 1000 + OWN).spawn(move || calls(text.as_bytes())).unwrap().join().unwrap();
