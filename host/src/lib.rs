@@ -10,6 +10,15 @@ pub mod texts;
 #[cfg(oracle)]
 include!(concat!(env!("OUT_DIR"), "/oracle.rs"));
 
+/// "text over 1,000,000 bytes" is refused.
+pub const MAX_QUERY_SIZE: usize = 1_000_000;
+
+/// The lengths of the longest texts that are taken, and of the shortest that is not.
+pub const AROUND_THE_LIMIT: [usize; 3] = [MAX_QUERY_SIZE - 1, MAX_QUERY_SIZE, MAX_QUERY_SIZE + 1];
+
+/// "A packed list holds 12 bytes a token".
+pub const TOKEN_BYTES: usize = 12;
+
 /// A token as document 01 has it: kind, start, end.
 pub type Triple = (u32, u32, u32);
 

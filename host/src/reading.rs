@@ -1,6 +1,6 @@
 //! A second reading of document 01, from its text alone: the lexical rules over any bytes, and what the C functions must answer and leave.
 //! Sentences are numbered as in docs/DECISIONS.md: 4.1 is the first sentence of rule 4.
-use crate::{Answer, Call, Op, Triple};
+use crate::{Answer, Call, Op, Triple, MAX_QUERY_SIZE, TOKEN_BYTES};
 use std::ops::Range;
 
 const WHITESPACE: u32 = 1;
@@ -223,7 +223,7 @@ pub fn packed(tokens: &[Triple]) -> Vec<u8> {
 pub fn listing(call: &Call, asked: impl FnOnce() -> Vec<Triple>) -> Answer {
     let refused = |number, value| Answer { answer: answer(number, 0, value), memory: call.memory.clone() };
     let stored = |number, tokens: Vec<Triple>| {
-        if call.lent / 12 < tokens.len() {
+        if call.lent / TOKEN_BYTES < tokens.len() {
             return refused(3, tokens.len());
         }
         let mut memory = packed(&tokens);
@@ -232,7 +232,7 @@ pub fn listing(call: &Call, asked: impl FnOnce() -> Vec<Triple>) -> Answer {
     };
     if call.mode > 1 {
         refused(6, 0)
-    } else if call.text.len() > 1_000_000 {
+    } else if call.text.len() > MAX_QUERY_SIZE {
         match call.op {
             Op::List => stored(1, vec![(MAX_QUERY_SIZE_EXCEEDED, 0, 0), (END_OF_STREAM, 0, 0)]),
             _ => refused(1, 0),
@@ -246,7 +246,7 @@ pub fn listing(call: &Call, asked: impl FnOnce() -> Vec<Triple>) -> Answer {
 
 /// What a step must answer.
 pub fn step(text: &[u8], cursor: u64) -> u64 {
-    if text.len() > 1_000_000 {
+    if text.len() > MAX_QUERY_SIZE {
         answer(1, 0, 0)
     } else if cursor > text.len() as u64 {
         answer(4, 0, 0)
@@ -294,7 +294,7 @@ fn masked(text: &[u8], tokens: &[Triple]) -> Vec<u8> {
 pub fn mask(call: &Call, tokens: impl FnOnce() -> Vec<Triple>) -> Answer {
     let length = call.text.len();
     let refused = |number, value| Answer { answer: answer(number, 0, value), memory: call.memory.clone() };
-    if length > 1_000_000 {
+    if length > MAX_QUERY_SIZE {
         refused(1, 0)
     } else if let Err(e) = std::str::from_utf8(call.text) {
         refused(2, e.valid_up_to())
@@ -312,7 +312,7 @@ pub fn part(call: &Call) -> u64 {
     let (text, start, end) = (call.text, call.number, call.end);
     let is_continuation = |at: u64| text.get(at as usize).is_some_and(|byte| (0x80..=0xBF).contains(byte));
     let no_kind = call.op == Op::ShownText && !(1..=48).contains(&call.mode);
-    if text.len() > 1_000_000 {
+    if text.len() > MAX_QUERY_SIZE {
         answer(1, 0, 0)
     } else if start > end || end > text.len() as u64 || is_continuation(start) || is_continuation(end) || no_kind {
         answer(5, 0, 0)
@@ -325,7 +325,7 @@ pub fn part(call: &Call) -> u64 {
 
 /// What a place must answer: the number in bits 56 to 63, the line in bits 28 to 55, the column in bits 0 to 27.
 pub fn place(text: &[u8], offset: u64) -> u64 {
-    if text.len() > 1_000_000 {
+    if text.len() > MAX_QUERY_SIZE {
         return answer(1, 0, 0);
     }
     if offset > text.len() as u64 {

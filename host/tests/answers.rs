@@ -1,5 +1,6 @@
 //! The stored answers are what the oracle answers today.
 #![cfg(oracle)]
+use host::TOKEN_BYTES;
 use std::process::Command;
 
 /// The number at the front of some bytes, which go on after it.
@@ -18,7 +19,7 @@ fn the_stored_answers() {
         let length = number(&mut rest);
         rest.split_off(..length).unwrap();
         let count = number(&mut rest);
-        rest.split_off(..12 * count).unwrap();
+        rest.split_off(..TOKEN_BYTES * count).unwrap();
         (texts, tokens) = (texts + 1, tokens + count);
     }
     println!("{texts} stored texts with {tokens} tokens, {} bytes", stored.len());

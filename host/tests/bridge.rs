@@ -1,6 +1,6 @@
 //! The library in the bridge against the linked one: the same answers, byte for byte. On x86-64 rt's own archive is linked, and the bridge has it
 //! too or, where GIEHTAMUN_BRIDGE is aarch64, its LLVM module compiled for Arm. On Arm that module is linked, and the bridge has rt's own archive.
-use host::{ask, bridge, compare, reading, texts, Call, Op, Random};
+use host::{ask, bridge, compare, reading, texts, Call, Op, Random, MAX_QUERY_SIZE, TOKEN_BYTES};
 
 /// Calls for a list with buffers of some lengths: none, a byte short, just enough, and a token for each byte of the text.
 fn lists<'a>(calls: &mut Vec<Call<'a>>, op: Op, mode: u32, position: u64, text: &'a [u8]) {
@@ -9,7 +9,7 @@ fn lists<'a>(calls: &mut Vec<Call<'a>>, op: Op, mode: u32, position: u64, text: 
         refused if refused >> 56 == 3 => refused as u32 as usize,
         _ => 0,
     };
-    let lengths = [0, (12 * tokens).saturating_sub(1), 12 * tokens, 12 * text.len()];
+    let lengths = [0, (TOKEN_BYTES * tokens).saturating_sub(1), TOKEN_BYTES * tokens, TOKEN_BYTES * text.len()];
     calls.extend(lengths.map(|lent| Call::list(op, mode, position, text, lent)));
 }
 
@@ -70,7 +70,7 @@ fn random_texts() {
 fn sizes() {
     let mut r = Random(0x801F2E2858EFC16);
     let mut compared = 0;
-    for length in [1_000_000, 1_000_001] {
+    for length in [MAX_QUERY_SIZE, MAX_QUERY_SIZE + 1] {
         for part in ["+", "\n", "'", "$a"] {
             let mut text = part.repeat(length / part.len()).into_bytes();
             text.resize(length, b'a');
@@ -78,5 +78,5 @@ fn sizes() {
             compared += compare(&all, bridge::ask(&all));
         }
     }
-    println!("the bridge: texts of 1,000,000 and 1,000,001 bytes: {compared} calls");
+    println!("the bridge: texts of the size limit and a byte more: {compared} calls");
 }

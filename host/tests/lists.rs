@@ -1,6 +1,6 @@
 //! The listings, through the C functions, against the Rust: what they answer, what they write, and what they do not write.
 #![cfg(oracle)]
-use host::{compare, oracle, reading, texts, Answer, Call, Op, Random};
+use host::{compare, oracle, reading, texts, Answer, Call, Op, Random, AROUND_THE_LIMIT, MAX_QUERY_SIZE, TOKEN_BYTES};
 
 fn want(call: &Call) -> Answer {
     reading::listing(call, || oracle::asked(call))
@@ -17,9 +17,9 @@ fn tokens(call: &Call) -> usize {
 /// Lengths of a buffer: none, a byte short of the list, just the list, almost a token more, and around a token for each byte of the text,
 /// from where on the library need not count first.
 fn lengths(call: &Call) -> [usize; 8] {
-    let list = 12 * tokens(call);
-    let most = 12 * call.text.len();
-    [0, list.saturating_sub(1), list, list + 11, most.saturating_sub(12), most.saturating_sub(1), most, most + 25]
+    let list = TOKEN_BYTES * tokens(call);
+    let most = TOKEN_BYTES * call.text.len();
+    [0, list.saturating_sub(1), list, list + TOKEN_BYTES - 1, most.saturating_sub(TOKEN_BYTES), most.saturating_sub(1), most, most + 25]
 }
 
 /// Calls for a list with buffers of some of these lengths.
@@ -42,8 +42,8 @@ fn positions(text: &[u8], some: impl Fn(usize) -> bool) -> Vec<u64> {
 /// Both listings in modes that there are not.
 fn without_mode<'a>(calls: &mut Vec<Call<'a>>, text: &'a [u8]) {
     for mode in [2, u32::MAX] {
-        calls.push(Call::list(Op::List, mode, 0, text, 12 * text.len()));
-        calls.push(Call::list(Op::ListUpTo, mode, u64::MAX, text, 12 * text.len()));
+        calls.push(Call::list(Op::List, mode, 0, text, TOKEN_BYTES * text.len()));
+        calls.push(Call::list(Op::ListUpTo, mode, u64::MAX, text, TOKEN_BYTES * text.len()));
     }
 }
 
@@ -91,7 +91,7 @@ fn every_character() {
     let texts: Vec<String> = ('\0'..=char::MAX).map(|c| format!("{c}a{c}1{c}'{c}")).collect();
     let mut compared = 0;
     for some in texts.chunks(1 << 14) {
-        let calls: Vec<Call> = some.iter().map(|text| Call::list(Op::List, 0, 0, text.as_bytes(), 12 * text.len())).collect();
+        let calls: Vec<Call> = some.iter().map(|text| Call::list(Op::List, 0, 0, text.as_bytes(), TOKEN_BYTES * text.len())).collect();
         compared += compare(&calls, calls.iter().map(want));
     }
     println!("every character, first, in a word, after a number and in a string: {compared} calls");
@@ -142,7 +142,7 @@ fn every_short_text_at_the_end_of_a_block() {
         let mut calls = vec![];
         for text in some.iter().map(|t| t.as_bytes()) {
             let position = (offset + r.below(8)) as u64;
-            let lengths = [12 * tokens(&Call::list(Op::List, 0, 0, text, 0)), 12 * text.len()];
+            let lengths = [TOKEN_BYTES * tokens(&Call::list(Op::List, 0, 0, text, 0)), TOKEN_BYTES * text.len()];
             for mode in [0, 1] {
                 calls.push(Call::list(Op::List, mode, 0, text, r.one_of(&lengths)));
                 calls.push(Call::list(Op::ListUpTo, mode, position, text, r.one_of(&lengths)));
@@ -199,7 +199,7 @@ fn texts_of_many_dollars() {
 #[test]
 fn sizes() {
     let mut compared = 0;
-    for length in [999_999, 1_000_000, 1_000_001] {
+    for length in AROUND_THE_LIMIT {
         for part in [" ", "+", "SELECT 'שלום', 1.5e3 -- ؟\n FROM `t`;", "$a"] {
             let mut text = part.repeat(length / part.len()).into_bytes();
             text.resize(length, b'\n');
@@ -208,11 +208,11 @@ fn sizes() {
             for text in [&text, &broken] {
                 for mode in [0, 1, 2] {
                     let mut calls = vec![];
-                    let list = 12 * tokens(&Call::list(Op::List, mode, 0, text, 0));
-                    for lent in [0, 11, 12, 23, 24, 25, 36, list.saturating_sub(1), list, 12 * length] {
+                    let list = TOKEN_BYTES * tokens(&Call::list(Op::List, mode, 0, text, 0));
+                    for lent in [0, TOKEN_BYTES - 1, TOKEN_BYTES, 2 * TOKEN_BYTES - 1, 2 * TOKEN_BYTES, 2 * TOKEN_BYTES + 1, 3 * TOKEN_BYTES, list.saturating_sub(1), list, TOKEN_BYTES * length] {
                         calls.push(Call::list(Op::List, mode, 0, text, lent));
                     }
-                    for position in [0, 1, 2, 999_999, 1_000_000, u64::MAX] {
+                    for position in [0, 1, 2, MAX_QUERY_SIZE as u64 - 1, MAX_QUERY_SIZE as u64, u64::MAX] {
                         calls.push(Call::list(Op::ListUpTo, mode, position, text, 24));
                     }
                     calls.push(Call::list(Op::ListUpTo, mode, 999_999, text, list));
@@ -221,5 +221,5 @@ fn sizes() {
             }
         }
     }
-    println!("texts of 999,999, 1,000,000 and 1,000,001 bytes: {compared} calls");
+    println!("texts of {AROUND_THE_LIMIT:?} bytes: {compared} calls");
 }

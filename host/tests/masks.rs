@@ -1,6 +1,6 @@
 //! Masked copies, through the C function, against document 01's hidden bytes over the Rust's lists; and the Rust lists each copy as its text.
 #![cfg(oracle)]
-use host::{ask, compare, compared, oracle, reading, texts, Answer, Call, Random, Triple};
+use host::{ask, compare, compared, oracle, reading, texts, Answer, Call, Random, Triple, AROUND_THE_LIMIT};
 
 fn list(text: &[u8]) -> Vec<Triple> {
     oracle::full(std::str::from_utf8(text).expect("a text that is masked, and its copy, are UTF-8"))
@@ -129,7 +129,7 @@ fn texts_of_many_dollars() {
 #[test]
 fn sizes() {
     let mut compared = 0;
-    for length in [999_999, 1_000_000, 1_000_001] {
+    for length in AROUND_THE_LIMIT {
         for part in [" ", "+", "SELECT 'שלום', 1.5e3 -- ؟\n FROM `t`;", "$a", "'", "/*", "--"] {
             let mut text = part.repeat(length / part.len()).into_bytes();
             text.resize(length, b'\n');
@@ -138,7 +138,7 @@ fn sizes() {
             compared += compare_copies([text, broken].iter().flat_map(|text| with_lengths(text, 0..4)));
         }
     }
-    println!("texts of 999,999, 1,000,000 and 1,000,001 bytes: {compared} calls");
+    println!("texts of {AROUND_THE_LIMIT:?} bytes: {compared} calls");
 }
 
 /// A text with its copy by the library, its list by the Rust, and which of its bytes are hidden.

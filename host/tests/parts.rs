@@ -1,5 +1,5 @@
 //! Token text, shown text and places, through the C functions, against the second reading.
-use host::{compare, reading, texts, Answer, Call, Op, Random};
+use host::{compare, reading, texts, Answer, Call, Op, Random, AROUND_THE_LIMIT};
 
 /// What document 01 has for these, by the second reading: they write nothing.
 fn want(call: &Call) -> Answer {
@@ -135,7 +135,7 @@ fn token_text_is_a_slice_of_the_rust() {
 #[test]
 fn sizes() {
     let mut compared = 0;
-    for length in [999_999, 1_000_000, 1_000_001] {
+    for length in AROUND_THE_LIMIT {
         for byte in *b" \n\x80\xE2" {
             let text = vec![byte; length];
             let end = length as u64;
@@ -146,5 +146,5 @@ fn sizes() {
             compared += compare(&calls, calls.iter().map(want));
         }
     }
-    println!("texts of 999,999, 1,000,000 and 1,000,001 bytes: {compared} calls");
+    println!("texts of {AROUND_THE_LIMIT:?} bytes: {compared} calls");
 }

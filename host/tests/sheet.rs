@@ -1,5 +1,5 @@
 //! Document 01's bench sheet, by the C functions and by the Rust: what is proved of the definitions is what both do.
-use host::{compare, reading, Answer, Call, Op, Triple};
+use host::{compare, reading, Answer, Call, Op, Triple, MAX_QUERY_SIZE, TOKEN_BYTES};
 
 type Case = (&'static str, &'static [Triple]);
 
@@ -66,7 +66,7 @@ fn steps(text: &str, cursor: u64, number: u64, kind: u32, next: u32) {
 #[test]
 fn the_cases_by_the_c_functions() {
     for (text, tokens) in PROVED.into_iter().chain(TO_RUN) {
-        for lent in [12 * tokens.len(), 12 * text.len()] {
+        for lent in [TOKEN_BYTES * tokens.len(), TOKEN_BYTES * text.len()] {
             lists(Call::list(Op::List, 0, 0, text.as_bytes(), lent), 0, tokens.len(), tokens);
         }
         for (kind, start, end) in tokens {
@@ -76,7 +76,7 @@ fn the_cases_by_the_c_functions() {
         steps(text, text.len() as u64 + 1, 4, 0, 0);
     }
     for (op, mode, position, tokens) in LISTS {
-        lists(Call::list(op, mode, position, LISTS_OF.as_bytes(), 12 * tokens.len()), 0, tokens.len(), tokens);
+        lists(Call::list(op, mode, position, LISTS_OF.as_bytes(), TOKEN_BYTES * tokens.len()), 0, tokens.len(), tokens);
     }
 }
 
@@ -111,11 +111,11 @@ fn text_that_is_not_utf8() {
 
 #[test]
 fn the_size_limit_by_the_c_functions() {
-    let text = [b' '; 1_000_001];
-    lists(Call::list(Op::List, 0, 0, &text[1..], 12), 0, 1, &[(1, 0, 1_000_000)]);
-    lists(Call::list(Op::List, 0, 0, &text, 23), 3, 2, &[]);
-    lists(Call::list(Op::List, 0, 0, &text, 24), 1, 2, &TOO_LONG);
-    lists(Call::list(Op::ListUpTo, 0, 5, &text, 24), 1, 0, &[]);
+    let text = [b' '; MAX_QUERY_SIZE + 1];
+    lists(Call::list(Op::List, 0, 0, &text[1..], TOKEN_BYTES), 0, 1, &[(1, 0, MAX_QUERY_SIZE as u32)]);
+    lists(Call::list(Op::List, 0, 0, &text, 2 * TOKEN_BYTES - 1), 3, 2, &[]);
+    lists(Call::list(Op::List, 0, 0, &text, 2 * TOKEN_BYTES), 1, 2, &TOO_LONG);
+    lists(Call::list(Op::ListUpTo, 0, 5, &text, 2 * TOKEN_BYTES), 1, 0, &[]);
 }
 
 #[cfg(oracle)]
@@ -139,7 +139,7 @@ mod by_the_rust {
 
     #[test]
     fn the_size_limit() {
-        assert_eq!(full(&" ".repeat(1_000_000)), [(1, 0, 1_000_000)]);
-        assert_eq!(full(&" ".repeat(1_000_001)), TOO_LONG);
+        assert_eq!(full(&" ".repeat(MAX_QUERY_SIZE)), [(1, 0, MAX_QUERY_SIZE as u32)]);
+        assert_eq!(full(&" ".repeat(MAX_QUERY_SIZE + 1)), TOO_LONG);
     }
 }

@@ -1,5 +1,5 @@
 //! Single steps, through the C function: against the Rust from every token's edge, and against the second reading from everywhere.
-use host::{compare, reading, texts, Answer, Call, Op, Random};
+use host::{compare, reading, texts, Answer, Call, Op, Random, AROUND_THE_LIMIT, MAX_QUERY_SIZE};
 
 /// What document 01 has for a step, by the second reading.
 fn want(call: &Call) -> Answer {
@@ -58,15 +58,16 @@ fn from_everywhere_in_random_texts() {
 #[test]
 fn sizes() {
     let mut compared = 0;
-    for length in [999_999, 1_000_000, 1_000_001] {
+    for length in AROUND_THE_LIMIT {
         for byte in *b" '\xE2" {
             let text = vec![byte; length];
-            let cursors = [0, 1, 500_000, 999_998, 999_999, 1_000_000, 1_000_001, 1_000_002, u64::MAX];
+            let limit = MAX_QUERY_SIZE as u64;
+            let cursors = [0, 1, limit / 2, limit - 2, limit - 1, limit, limit + 1, limit + 2, u64::MAX];
             let calls = cursors.map(|cursor| Call::read(Op::Step, cursor, &text));
             compared += compare(&calls, calls.iter().map(want));
         }
     }
-    println!("texts of 999,999, 1,000,000 and 1,000,001 bytes: {compared} steps");
+    println!("texts of {AROUND_THE_LIMIT:?} bytes: {compared} steps");
 }
 
 #[cfg(oracle)]

@@ -1,4 +1,5 @@
 //! What `show` prints: read back, it is the query, and nothing in the query acts on a terminal or a page.
+use giehtamun::TOKEN_BYTES;
 use std::io::Write;
 use std::process::{Command, Stdio};
 
@@ -157,7 +158,7 @@ fn many_texts() {
         let length = u32::from_le_bytes(take(4).try_into().unwrap());
         texts.push(std::str::from_utf8(take(length as usize)).unwrap());
         let count = u32::from_le_bytes(take(4).try_into().unwrap());
-        take(12 * count as usize);
+        take(TOKEN_BYTES * count as usize);
     }
     for some in texts.chunks(10) {
         let text = some.concat();

@@ -1,4 +1,5 @@
 //! The tool as someone with a file uses it: what it prints, where, and with which status.
+use giehtamun::MAX_QUERY_SIZE;
 use std::fs::File;
 use std::io::{Read, Write};
 use std::process::{Command, Stdio};
@@ -89,15 +90,16 @@ fn reads_files() {
 
 #[test]
 fn the_size_limit() {
-    let text = [b'('; 1_000_001];
+    let text = [b'('; MAX_QUERY_SIZE + 1];
     let all = &text[1..];
     let list = prints(&["list", "-"], all);
-    assert_eq!(list.lines().count(), 1_000_000);
-    assert_eq!(list.lines().last(), Some("OpeningRoundBracket  999999..1000000 1:1000000 \"(\""));
+    assert_eq!(list.lines().count(), MAX_QUERY_SIZE);
+    let last = format!("OpeningRoundBracket  {}..{MAX_QUERY_SIZE} 1:{MAX_QUERY_SIZE} \"(\"", MAX_QUERY_SIZE - 1);
+    assert_eq!(list.lines().last(), Some(&*last));
     assert_eq!(prints(&["mask", "-"], all).as_bytes(), all);
-    assert_eq!(prints(&["show", "--html", "-"], all).matches("<span").count(), 1_000_000);
+    assert_eq!(prints(&["show", "--html", "-"], all).matches("<span").count(), MAX_QUERY_SIZE);
     for words in [&["list", "-"][..], &["list", "--lean", "-"], &["mask", "-"], &["show", "-"], &["show", "--html", "-"]] {
-        refuses(words, &text, "standard input: longer than 1000000 bytes", 1);
+        refuses(words, &text, &format!("standard input: longer than {MAX_QUERY_SIZE} bytes"), 1);
     }
 }
 

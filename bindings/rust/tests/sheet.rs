@@ -99,10 +99,10 @@ fn text_that_is_not_utf8() {
 fn the_size_limit() {
     let text = [b' '; MAX_QUERY_SIZE + 1];
     let all = &text[1..];
-    let token = Token { kind: Kind::Whitespace, start: 0, end: 1_000_000 };
+    let token = Token { kind: Kind::Whitespace, start: 0, end: MAX_QUERY_SIZE as u32 };
     assert_eq!(list(all).unwrap(), [token]);
     assert_eq!(mask(all).unwrap(), all);
-    assert_eq!(place(all, 1_000_000), Ok(Place { line: 0, column: 1_000_000 }));
+    assert_eq!(place(all, MAX_QUERY_SIZE), Ok(Place { line: 0, column: MAX_QUERY_SIZE as u32 }));
     let mut buffer = [7; 25];
     assert_eq!(list_into(&text, Mode::Full, &mut buffer[..23]).err(), Some(Refusal::NoRoom { needed: 2 }));
     assert_eq!(buffer, [7; 25]);

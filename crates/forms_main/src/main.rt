@@ -8,21 +8,25 @@ use lists::listing::Settings;
 use lists::listing::tokenize;
 use lists::listing::tokenize_up_to_position;
 use lists::packed::put_token;
+use rules::TOKEN_BYTES;
 use rules::token_bytes;
 ghost use mathlib.Core.Path.{_≡_};
-ghost use Prim.Native.Nat.{_≤_};
+ghost use Prim.Native.Nat.{_*_, _≤_};
 ghost use lib.ListN.{length};
+ghost use Rattle.rules.specs.Limits.{tokenBytes};
 
 // The room of 64 tokens.
-fn space() -> [u8; 768]
-    ensures { λ r. ⌜ 768 ≡ length r ⌝ }
+const SPACE: usize = 64 * TOKEN_BYTES;
+
+fn space() -> [u8; SPACE]
+    ensures { λ r. ⌜ 64 * tokenBytes ≡ length r ⌝ }
 {
-    [0; 768]
+    [0; SPACE]
 }
 
 // A record of kind 0 packs to zeros, as which a place past a packed list is left.
 fn pack_records(records: [Token; 64], list: &mut [u8])
-    requires { ⌜ 768 ≤ length (now list) ⌝ }
+    requires { ⌜ 64 * tokenBytes ≤ length (now list) ⌝ }
 {
     for i in 0..64 {
         let token = records[i];

@@ -1,9 +1,9 @@
 //! The library's C functions, as a host calls them.
-use host::linked;
+use host::{linked, TOKEN_BYTES};
 
 /// Room for a token a byte.
 pub fn room(text: &[u8]) -> Vec<u8> {
-    vec![0; 12 * text.len()]
+    vec![0; TOKEN_BYTES * text.len()]
 }
 
 /// Every token by a call of its own; how many there are.
