@@ -1,7 +1,7 @@
 -- Bytes packed into one number. Assumes nothing.
-use Prim.Native.Nat.{ℕ, zero, suc, _+_, _*_, _^_, _<_}
+use Prim.Native.Nat.{ℕ, zero, suc, _+_, _*_, _^_, _≤_, _<_}
 use native.Mathlib.Omega.{arith}
-use native.Mathlib.Nat.{pow-succ', mul-assoc, mul-comm}
+use native.Mathlib.Nat.{pow-succ', mul-assoc, mul-comm, mul-le-mul-right}
 use mathlib.Core.Path.{_≡_, refl, sym, ap, _∙_}
 use mathlib.Core.List.{List}
 use lib.ListN.{getD}
@@ -23,6 +23,21 @@ pub packed-lt : (n : ℕ) (s : List ℕ) → ((k : ℕ) → getD s k 0 < 256) �
 unfolding packed
 packed-lt zero s fits i = omega arith
 packed-lt (suc n) s fits i = rw (pow-succ' 256 n) (omega (arith, packed-lt n s fits (i + 1), fits i))
+
+-- Bytes in two halves of n each: the higher one in its place, and both together, run over nothing and are all of them.
+pub record Halves (n : ℕ) (s : List ℕ) (i low high : ℕ) : Type 0 where
+  pub raised : high * 256 ^ n < 256 ^ n * 256 ^ n
+  pub fits : low + high * 256 ^ n < 256 ^ n * 256 ^ n
+  pub all : low + high * 256 ^ n ≡ packed (n + n) s i
+
+pub halves : (n : ℕ) (s : List ℕ) → ((k : ℕ) → getD s k 0 < 256) → (i low high : ℕ) → low ≡ packed n s i → high ≡ packed n s (i + n) → Halves n s i low high
+halves n s bytes i low high l h =
+    let e = packed-join n n s i in
+    let lo : low < 256 ^ n = omega (arith, packed-lt n s bytes i) in
+    let hi : high + 1 ≤ 256 ^ n = omega (arith, packed-lt n s bytes (i + n)) in
+    let m : (high + 1) * 256 ^ n ≤ 256 ^ n * 256 ^ n = mul-le-mul-right (256 ^ n) hi in
+    let p : 0 < 256 ^ n = omega arith in
+    record { raised = omega (arith, m); fits = omega (arith, m); all = rw (l, h) (omega (arith, e)) }
 
 pub packed-two : (s : List ℕ) (i : ℕ) → packed 2 s i ≡ getD s i 0 + getD s (i + 1) 0 * 256
 unfolding packed
