@@ -4,11 +4,11 @@
 // bytes that were searched in vain are counted, and now and then one pass over the rest of the text finds out for many `$` at once that they begin no
 // here-document. What the pass finds is a number and some bits, and what is proved of them is only that no `$` is marked wrongly: the table that
 // the pass makes of the tags may hold anything.
+use lexer::bytes::is_tag_byte;
 use lexer::syntax_kind::SyntaxKind;
-use lexer::tokenizer::end_of;
-use lexer::tokenizer::is_tag_byte;
-use lexer::tokenizer::join;
-use lexer::tokenizer::kind_of;
+use lexer::token::end_of;
+use lexer::token::join;
+use lexer::token::kind_of;
 use lexer::tokenizer::next_token;
 use runs::eight;
 use std::num::wrapping_add_u64;

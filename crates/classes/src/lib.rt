@@ -1,15 +1,17 @@
 // The classes of characters, by their codes.
 //
-// The compiler keeps no data of its own: a table is copied to the stack wherever it is named. So a loop makes the tables once,
-// at its first character past ASCII, and lends them to the functions that end in `_in`, which have no ASCII path of their own.
+// The compiler keeps no data of its own: a table is copied to the stack wherever it is named. So a loop makes the table once,
+// at its first character past ASCII, and lends it to `is_alphanumeric_in`, which has no ASCII path of its own. How it holds the
+// classes is known in this crate alone.
 pub mod tables;
 
-use tables::AlphabeticTable;
-use tables::NumericTable;
+use tables::ALPHABETIC_END;
+use tables::CLASSES;
+use tables::ClassTable;
 ghost use mathlib.Core.Path.{_≡_};
 ghost use mathlib.Core.Bool.{true};
-ghost use Rattle.rules.specs.Tables.{alphabeticTable, numericTable};
 ghost use Rattle.rules.specs.Classes.{inRanges, rises, whiteSpace, alphabetic, alphanumeric, letter, digit};
+ghost use Rattle.classes.specs.Held.{Held};
 
 pub fn is_white_space(c: u32) -> bool
     ensures { λ r. ⌜ r ≡ whiteSpace c ⌝ }
@@ -33,8 +35,8 @@ pub fn is_alphabetic(c: u32) -> bool
     if c < 128 {
         return is_letter(c);
     }
-    let al = alphabetic_table();
-    is_alphabetic_in(&al, c)
+    let table = class_table();
+    is_alphabetic_in(&table, c)
 }
 
 pub fn is_alphanumeric(c: u32) -> bool
@@ -43,35 +45,30 @@ pub fn is_alphanumeric(c: u32) -> bool
     if c < 128 {
         return is_letter(c) | is_digit(c);
     }
-    let al = alphabetic_table();
-    let nu = numeric_table();
-    is_alphanumeric_in(&al, &nu, c)
+    let table = class_table();
+    is_alphanumeric_in(&table, c)
 }
 
-pub fn alphabetic_table() -> AlphabeticTable
-    ensures { λ r. ⌜ r ≡ alphabeticTable ⌝ }
+pub fn class_table() -> ClassTable
+    ensures { λ r. ⌜ Held r ⌝ }
 {
-    tables::ALPHABETIC
+    CLASSES
 }
 
-pub fn numeric_table() -> NumericTable
-    ensures { λ r. ⌜ r ≡ numericTable ⌝ }
-{
-    tables::NUMERIC
-}
-
-pub fn is_alphabetic_in(al: &AlphabeticTable, c: u32) -> bool
-    requires { ⌜ now al ≡ alphabeticTable ⌝ }
+fn is_alphabetic_in(table: &ClassTable, c: u32) -> bool
+    requires { ⌜ Held (now table) ⌝ }
     ensures { λ r. ⌜ r ≡ alphabetic c ⌝ }
 {
-    in_ranges(al, c)
+    let bounds = &table[..];
+    in_ranges(&bounds[0..ALPHABETIC_END], c)
 }
 
-pub fn is_alphanumeric_in(al: &AlphabeticTable, nu: &NumericTable, c: u32) -> bool
-    requires { ⌜ (now al ≡ alphabeticTable) × (now nu ≡ numericTable) ⌝ }
+pub fn is_alphanumeric_in(table: &ClassTable, c: u32) -> bool
+    requires { ⌜ Held (now table) ⌝ }
     ensures { λ r. ⌜ r ≡ alphanumeric c ⌝ }
 {
-    is_alphabetic_in(al, c) || in_ranges(nu, c)
+    let bounds = &table[..];
+    is_alphabetic_in(table, c) || in_ranges(&bounds[ALPHABETIC_END..], c)
 }
 
 fn is_letter(c: u32) -> bool

@@ -1,7 +1,9 @@
-// The tables of classes in the layout of the definitions, which the proofs tie them to. Made by tools/tables.
-pub type AlphabeticTable = [u32; 1522];
+// Alphabetic's table and then that of Nd, Nl and No, in the layout of the definitions, which the proofs tie them to. Made by tools/tables.
+pub const ALPHABETIC_END: usize = 1522;
 
-pub const ALPHABETIC: AlphabeticTable = [
+pub type ClassTable = [u32; 1814];
+
+pub const CLASSES: ClassTable = [
     65,
     91,
     97,
@@ -1524,11 +1526,6 @@ pub const ALPHABETIC: AlphabeticTable = [
     201547,
     201552,
     210042,
-];
-
-pub type NumericTable = [u32; 292];
-
-pub const NUMERIC: NumericTable = [
     48,
     58,
     178,

@@ -16,7 +16,7 @@ use Rattle.rules.specs.Words.{startsWord}
 use Rattle.rules.specs.Dollars.{tagByte}
 use Rattle.rules.proofs.Tests.{clash, eqb-true, or-cases, and-both}
 use Rattle.rules.proofs.Tables.{agree, agree-at}
-use Rattle.lexer.specs.Leads.{among, leadKind}
+use Rattle.lexer.specs.FirstBytes.{among, firstByteKind}
 use Rattle.edges.specs.Leads.{seconds, after, minds, plainKind, lead, told, leadsFrom, leadTable}
 
 from : (n b k : ℕ) → k < n → getD (leadsFrom n b) k 0 ≡ lead (b + k)
@@ -30,12 +30,12 @@ unfolding leadTable
 in-table b l = from 256 0 b l ∙ ap lead (omega arith)
 
 pub lead-small : (b : ℕ) → b < 256 → lead b < 0x2_0000
-unfolding lead minds after plainKind leadKind single
+unfolding lead minds after plainKind firstByteKind single
 lead-small b l = ltb-true (lead b) 0x2_0000 (agree-at (λ b. ltb (lead b) 0x2_0000) (λ b. true) 256 refl b l)
 
 -- the parts of a number
 parts : (b : ℕ) → b < 256 → (lead b / 8192 ≡ after b) × (lead b % 64 ≡ plainKind b)
-unfolding lead minds after plainKind leadKind single
+unfolding lead minds after plainKind firstByteKind single
 parts b l =
     let t = and-both (eqb (lead b / 8192) (after b)) (eqb (lead b % 64) (plainKind b)) (agree-at (λ b. eqb (lead b / 8192) (after b) && eqb (lead b % 64) (plainKind b)) (λ b. true) 256 refl b l) in
     (eqb-true (t .0), eqb-true (t .1))
@@ -80,48 +80,48 @@ module _ (a b : ℕ) (la : a < 256) (lb : b < 256) (t : told (lead a) (lead b) �
   knows p f = unminded p f a (after b) la class-small at-class
 
   -- a kind that does not mind a class is met at another class
-  module _ (k : ℕ) (c : ℕ) (f : agree (pair (λ a d. not (eqb (leadKind a) k) || not (eqb d c))) (λ n. true) 2048 ≡ true) where
-    not-class : leadKind a ≡ k → eqb (after b) c ≡ false
-    not-class e = not-true _ (implied (eqb (leadKind a) k) (not (eqb (after b) c)) (knows (λ a d. not (eqb (leadKind a) k) || not (eqb d c)) f) (eq-eqb (leadKind a) k e))
+  module _ (k : ℕ) (c : ℕ) (f : agree (pair (λ a d. not (eqb (firstByteKind a) k) || not (eqb d c))) (λ n. true) 2048 ≡ true) where
+    not-class : firstByteKind a ≡ k → eqb (after b) c ≡ false
+    not-class e = not-true _ (implied (eqb (firstByteKind a) k) (not (eqb (after b) c)) (knows (λ a d. not (eqb (firstByteKind a) k) || not (eqb d c)) f) (eq-eqb (firstByteKind a) k e))
 
   -- only a `$` is told of those at which a body or a character past ASCII starts
-  pub some-kind : leadKind a ≡ NoToken → a ≡ dollar
-  unfolding lead minds after plainKind leadKind single
-  some-kind e = let k = knows (λ a c. ltb 6 c || (not (eqb (leadKind a) NoToken) || eqb a dollar)) refl in go (ltb 6 (after b)) refl k
+  pub some-kind : firstByteKind a ≡ NoToken → a ≡ dollar
+  unfolding lead minds after plainKind firstByteKind single
+  some-kind e = let k = knows (λ a c. ltb 6 c || (not (eqb (firstByteKind a) NoToken) || eqb a dollar)) refl in go (ltb 6 (after b)) refl k
     where
-      go : (x : Bool) → ltb 6 (after b) ≡ x → (x || (not (eqb (leadKind a) NoToken) || eqb a dollar)) ≡ true → a ≡ dollar
+      go : (x : Bool) → ltb 6 (after b) ≡ x → (x || (not (eqb (firstByteKind a) NoToken) || eqb a dollar)) ≡ true → a ≡ dollar
       go true q k = let l = ltb-true 6 (after b) q in let h = small b lb in absurd (omega arith)
-      go false q k = eqb-true (implied (eqb (leadKind a) NoToken) (eqb a dollar) k (eq-eqb (leadKind a) NoToken e))
+      go false q k = eqb-true (implied (eqb (firstByteKind a) NoToken) (eqb a dollar) k (eq-eqb (firstByteKind a) NoToken e))
 
   pub of-dollar : a ≡ dollar → (eqb (after b) 1 ≡ false) × (eqb (after b) 5 ≡ false) × (eqb (after b) 6 ≡ false)
-  unfolding lead minds after plainKind leadKind single
+  unfolding lead minds after plainKind firstByteKind single
   of-dollar e = (other 1 refl, other 5 refl, other 6 refl)
     where
       other : (c : ℕ) → agree (pair (λ a d. not (eqb a dollar) || not (eqb d c))) (λ n. true) 2048 ≡ true → eqb (after b) c ≡ false
       other c f = not-true _ (implied (eqb a dollar) (not (eqb (after b) c)) (knows (λ a d. not (eqb a dollar) || not (eqb d c)) f) (eq-eqb a dollar e))
 
-  pub of-word : leadKind a ≡ BareWord → (eqb (after b) 4 ≡ false) × (eqb (after b) 1 ≡ false)
-  unfolding lead minds after plainKind leadKind single
+  pub of-word : firstByteKind a ≡ BareWord → (eqb (after b) 4 ≡ false) × (eqb (after b) 1 ≡ false)
+  unfolding lead minds after plainKind firstByteKind single
   of-word e = (not-class BareWord 4 refl e, not-class BareWord 1 refl e)
 
-  pub of-number : leadKind a ≡ Number → (eqb (after b) 4 ≡ false) × (eqb (after b) 1 ≡ false) × (eqb (after b) 2 ≡ false)
-  unfolding lead minds after plainKind leadKind single
+  pub of-number : firstByteKind a ≡ Number → (eqb (after b) 4 ≡ false) × (eqb (after b) 1 ≡ false) × (eqb (after b) 2 ≡ false)
+  unfolding lead minds after plainKind firstByteKind single
   of-number e = (not-class Number 4 refl e, not-class Number 1 refl e, not-class Number 2 refl e)
 
-  pub of-space : leadKind a ≡ Whitespace → eqb (after b) 4 ≡ false
-  unfolding lead minds after plainKind leadKind single
+  pub of-space : firstByteKind a ≡ Whitespace → eqb (after b) 4 ≡ false
+  unfolding lead minds after plainKind firstByteKind single
   of-space e = not-class Whitespace 4 refl e
 
-  pub of-longer : 0x80 ≤ leadKind a → (eqb a backslash ≡ false) × (eqb (after b) 3 ≡ false)
-  unfolding lead minds after plainKind leadKind single
+  pub of-longer : 0x80 ≤ firstByteKind a → (eqb a backslash ≡ false) × (eqb (after b) 3 ≡ false)
+  unfolding lead minds after plainKind firstByteKind single
   of-longer h =
-      let k = knows (λ a c. ltb 6 c || (not (leb 0x80 (leadKind a)) || (not (eqb a backslash) && not (eqb c 3)))) refl in
+      let k = knows (λ a c. ltb 6 c || (not (leb 0x80 (firstByteKind a)) || (not (eqb a backslash) && not (eqb c 3)))) refl in
       go (ltb 6 (after b)) refl k
     where
-      go : (x : Bool) → ltb 6 (after b) ≡ x → (x || (not (leb 0x80 (leadKind a)) || (not (eqb a backslash) && not (eqb (after b) 3)))) ≡ true → (eqb a backslash ≡ false) × (eqb (after b) 3 ≡ false)
+      go : (x : Bool) → ltb 6 (after b) ≡ x → (x || (not (leb 0x80 (firstByteKind a)) || (not (eqb a backslash) && not (eqb (after b) 3)))) ≡ true → (eqb a backslash ≡ false) × (eqb (after b) 3 ≡ false)
       go true q k = let l = ltb-true 6 (after b) q in let h = small b lb in absurd (omega arith)
       go false q k =
-          let m = and-both (not (eqb a backslash)) (not (eqb (after b) 3)) (implied (leb 0x80 (leadKind a)) _ k (le-leb 0x80 (leadKind a) h)) in
+          let m = and-both (not (eqb a backslash)) (not (eqb (after b) 3)) (implied (leb 0x80 (firstByteKind a)) _ k (le-leb 0x80 (firstByteKind a) h)) in
           (not-true _ (m .0), not-true _ (m .1))
 
 -- what the byte after a token is not
@@ -167,14 +167,14 @@ pub kind-of : (b : ℕ) → b < 256 → lead b % 64 ≡ plainKind b
 kind-of b l = parts b l .1
 
 -- of a byte that tells a kind
-pub kind-told : (b : ℕ) → (leadKind b ≡ NoToken → ⊥) → plainKind b ≡ leadKind b % 128
-unfolding plainKind leadKind
+pub kind-told : (b : ℕ) → (firstByteKind b ≡ NoToken → ⊥) → plainKind b ≡ firstByteKind b % 128
+unfolding plainKind firstByteKind
 kind-told b n = go (eqb b dollar) refl
   where
-    go : (x : Bool) → eqb b dollar ≡ x → cond x DollarSign (leadKind b % 128) ≡ leadKind b % 128
-    go true e = let q : b ≡ dollar = eqb-true e in absurd (n (ap leadKind q))
+    go : (x : Bool) → eqb b dollar ≡ x → cond x DollarSign (firstByteKind b % 128) ≡ firstByteKind b % 128
+    go true e = let q : b ≡ dollar = eqb-true e in absurd (n (ap firstByteKind q))
     go false e = refl
 
-pub kind-small : (b : ℕ) → b < 256 → leadKind b < 256
-unfolding leadKind single
-kind-small b l = ltb-true (leadKind b) 256 (agree-at (λ b. ltb (leadKind b) 256) (λ b. true) 256 refl b l)
+pub kind-small : (b : ℕ) → b < 256 → firstByteKind b < 256
+unfolding firstByteKind single
+kind-small b l = ltb-true (firstByteKind b) 256 (agree-at (λ b. ltb (firstByteKind b) 256) (λ b. true) 256 refl b l)

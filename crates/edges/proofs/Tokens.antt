@@ -26,20 +26,20 @@ use Rattle.rules.proofs.NumberBytes.{digit-ascii, radix-high}
 use Rattle.rules.proofs.RuleBytes.{by-spaces, by-letters, by-numeral, by-dollar}
 use Rattle.runs.specs.Classes.{past, inside, Skips}
 use Rattle.lexer.specs.Ends.{endsAt}
-use Rattle.lexer.specs.Leads.{among, leadKind, Operates}
+use Rattle.lexer.specs.FirstBytes.{among, firstByteKind, Operates}
 use Rattle.lexer.specs.Words.{asciiWord}
-use Rattle.lexer.specs.declared.tokenizer.Lexed.{Lexed}
+use Rattle.lexer.specs.declared.token.Lexed.{Lexed}
 use Rattle.lexer.proofs.Classes.{ascii-agree, ascii-tag, below}
 use Rattle.lexer.proofs.Edges.{inside-words}
 use Rattle.lexer.proofs.Ends.{lexed-is}
-use Rattle.lexer.proofs.Leads.{lead-word, lead-space, lead-number, lead-operates, lead-alone, lead-longer}
+use Rattle.lexer.proofs.FirstByteKinds.{lead-word, lead-space, lead-number, lead-operates, lead-alone, lead-longer}
 use Rattle.lexer.proofs.FirstBytes.{beyond}
 use Rattle.lexer.specs.HereDocs.{TagEnd}
 use Rattle.lexer.proofs.HereDocs.{no-tag}
 use Rattle.lexer.proofs.Matches.{not-among}
 use Rattle.lexer.proofs.Runs.{run-over}
-use Rattle.lexer.proofs.ShortNumbers.{told-whole}
-use Rattle.lexer.proofs.Shorts.{told-alone, told-single}
+use Rattle.lexer.proofs.FastNumbers.{told-whole}
+use Rattle.lexer.proofs.Decided.{told-alone, told-single}
 use Rattle.blocks.specs.Edges.{wordEdges, figureEdges, outside, cuts, edge}
 use Rattle.edges.specs.Leads.{seconds, after, plainKind, lead, told}
 use Rattle.edges.proofs.Tells.{some-kind, of-dollar, of-word, of-number, of-space, of-longer, not-wide, not-letter, not-dot, not-tag, not-dollar, not-second, kind-of, kind-told, kind-small}
@@ -154,14 +154,14 @@ module _ (s : List ℕ) (i e : ℕ) (fits : (k : ℕ) → getD s k 0 < 256) (h :
   Is = _≡_ {A = Lexed} (record { kind = lead a % 64; end = e }) (endsAt i (lexeme (afterDotAt s i) (drop i s)))
 
   -- of a kind that the byte tells
-  named : (k : ℕ) → leadKind a ≡ k → 0 < k → k < 128 → record { kind = k; end = e } ≡ endsAt i (lexeme (afterDotAt s i) (drop i s)) → Is
+  named : (k : ℕ) → firstByteKind a ≡ k → 0 < k → k < 128 → record { kind = k; end = e } ≡ endsAt i (lexeme (afterDotAt s i) (drop i s)) → Is
   named k f n m r = ap {B = Lexed} (λ (n : ℕ). record { kind = n; end = e }) (kind-of a (fits i) ∙ kind-told a (λ z. omega (arith, f)) ∙ omega (arith, f)) ∙ r
 
   -- a word
   word-step : (x y : ℕ) → inWord x ≡ true → cuts (not (inWord y)) (not (inFigure y)) (not (inWord x)) (not (inFigure x)) ≡ false → inWord y ≡ true
   word-step x y f c = word-on (inWord y) (inFigure y) (not (inFigure x)) (subst (λ (w : Bool). cuts (not (inWord y)) (not (inFigure y)) (not w) (not (inFigure x)) ≡ false) f c)
 
-  word : leadKind a ≡ BareWord → Is
+  word : firstByteKind a ≡ BareWord → Is
   word k =
       let v = lead-word a k in
       let u = of-word a b (fits i) (fits e) t k in
@@ -203,7 +203,7 @@ module _ (s : List ℕ) (i e : ℕ) (fits : (k : ℕ) → getD s k 0 < 256) (h :
       let w = and-both (not (inWord x)) (inFigure x) f in
       space-on (inWord y) (inFigure y) (subst (λ (u : Bool). cuts (not (inWord y)) (not (inFigure y)) true (not u) ≡ false) (w .1) (subst (λ (u : Bool). cuts (not (inWord y)) (not (inFigure y)) u (not (inFigure x)) ≡ false) (w .0) c))
 
-  space : leadKind a ≡ Whitespace → Is
+  space : firstByteKind a ≡ Whitespace → Is
   space k =
       let v = lead-space a k in
       let bl = not-wide b (fits e) (of-space a b (fits i) (fits e) t k) in
@@ -222,7 +222,7 @@ module _ (s : List ℕ) (i e : ℕ) (fits : (k : ℕ) → getD s k 0 < 256) (h :
       let w = and-both (inWord x) (inFigure x) f in
       digit-on (inWord y) (inFigure y) (subst (λ (u : Bool). cuts (not (inWord y)) (not (inFigure y)) false (not u) ≡ false) (w .1) (subst (λ (u : Bool). cuts (not (inWord y)) (not (inFigure y)) (not u) (not (inFigure x)) ≡ false) (w .0) c))
 
-  number : leadKind a ≡ Number → Is
+  number : firstByteKind a ≡ Number → Is
   number k =
       let v = lead-number a k in
       let u = of-number a b (fits i) (fits e) t k in
@@ -261,14 +261,14 @@ module _ (s : List ℕ) (i e : ℕ) (fits : (k : ℕ) → getD s k 0 < 256) (h :
           absurd (other-off (inWord (getD s (i + 1) 0)) (inFigure (getD s (i + 1) 0))
           (subst (λ (u : Bool). cuts (outside wordEdges s (i + 1)) (outside figureEdges s (i + 1)) true (not u) ≡ false) no-f (subst (λ (u : Bool). cuts (outside wordEdges s (i + 1)) (outside figureEdges s (i + 1)) (not u) (not (inFigure a)) ≡ false) no-w c)))
 
-  alone : BareWord < leadKind a → leadKind a < 0x80 → Is
+  alone : BareWord < firstByteKind a → firstByteKind a < 0x80 → Is
   alone m n =
       let o = lead-operates a m in
       let v = lead-alone a m n in
-      named (leadKind a) refl (omega arith) (omega arith)
-      (ap {B = Lexed} (λ (k : ℕ). record { kind = leadKind a; end = k }) (at-next (o .word) (o .space)) ∙ told-alone (afterDotAt s i) s i h o (v .0) (leadKind a) (v .1))
+      named (firstByteKind a) refl (omega arith) (omega arith)
+      (ap {B = Lexed} (λ (k : ℕ). record { kind = firstByteKind a; end = k }) (at-next (o .word) (o .space)) ∙ told-alone (afterDotAt s i) s i h o (v .0) (firstByteKind a) (v .1))
 
-  longer : BareWord < leadKind a → 0x80 ≤ leadKind a → Is
+  longer : BareWord < firstByteKind a → 0x80 ≤ firstByteKind a → Is
   longer m n =
       let o = lead-operates a m in
       let u = of-longer a b (fits i) (fits e) t n in
@@ -281,7 +281,7 @@ module _ (s : List ℕ) (i e : ℕ) (fits : (k : ℕ) → getD s k 0 < 256) (h :
       ends : e ≡ i + 1 → _≡_ {A = Lexed} (record { kind = lead a % 64; end = e }) (record { kind = lead a % 64; end = i + 1 })
       ends q = ap {B = Lexed} (λ (k : ℕ). record { kind = lead a % 64; end = k }) q
 
-      rest : leadKind a - 0x80 ≡ lead a % 64
+      rest : firstByteKind a - 0x80 ≡ lead a % 64
       rest = omega (arith, kind-of a (fits i), kind-told a (λ z. omega arith), kind-small a (fits i))
 
   -- a `$` before a byte that is no tag's and no `$`
@@ -291,18 +291,18 @@ module _ (s : List ℕ) (i e : ℕ) (fits : (k : ℕ) → getD s k 0 < 256) (h :
       let u = of-dollar a b (fits i) (fits e) t k in
       let q = at-next (ascii-tag a (omega arith) ∙ ap tagByte k) (ascii-space a (omega arith) ∙ ap (λ (x : ℕ). eqb x 0x20 || within 0x09 0x0D x) k) in
       let r : TagEnd s (i + 1) e = record { from = omega arith; upto = omega arith; tags = λ k m n. absurd (omega arith); over = not-tag b (fits e) (u .0) (u .1) } in
-      ap {B = Lexed} (λ (n : ℕ). record { kind = n; end = e }) (kind-of a (fits i) ∙ ap (λ (x : Bool). cond x DollarSign (leadKind a % 128)) (eq-eqb a dollar k))
+      ap {B = Lexed} (λ (n : ℕ). record { kind = n; end = e }) (kind-of a (fits i) ∙ ap (λ (x : Bool). cond x DollarSign (firstByteKind a % 128)) (eq-eqb a dollar k))
       ∙ ap {B = Lexed} (λ (n : ℕ). record { kind = DollarSign; end = n }) q
       ∙ no-tag s i e r (λ z. clash (eq-eqb b dollar z) (not-dollar b (fits e) (u .2)))
       ∙ ap (endsAt i) (sym (by-dollar (afterDotAt s i) s i h (omega arith) k))
 
   pub plain : Is
-  plain = go (eqb (leadKind a) BareWord) (eqb (leadKind a) Whitespace) (eqb (leadKind a) Number) (eqb (leadKind a) NoToken) (decLt (leadKind a) 0x80) refl refl refl refl
+  plain = go (eqb (firstByteKind a) BareWord) (eqb (firstByteKind a) Whitespace) (eqb (firstByteKind a) Number) (eqb (firstByteKind a) NoToken) (decLt (firstByteKind a) 0x80) refl refl refl refl
     where
-      other : (k : ℕ) → eqb (leadKind a) k ≡ false → leadKind a ≡ k → ⊥
-      other k f q = clash (eq-eqb (leadKind a) k q) f
+      other : (k : ℕ) → eqb (firstByteKind a) k ≡ false → firstByteKind a ≡ k → ⊥
+      other k f q = clash (eq-eqb (firstByteKind a) k q) f
 
-      go : (u v w n : Bool) → Dec (leadKind a < 0x80) → eqb (leadKind a) BareWord ≡ u → eqb (leadKind a) Whitespace ≡ v → eqb (leadKind a) Number ≡ w → eqb (leadKind a) NoToken ≡ n → Is
+      go : (u v w n : Bool) → Dec (firstByteKind a < 0x80) → eqb (firstByteKind a) BareWord ≡ u → eqb (firstByteKind a) Whitespace ≡ v → eqb (firstByteKind a) Number ≡ w → eqb (firstByteKind a) NoToken ≡ n → Is
       go true v w n x p q r z = word (eqb-true p)
       go false true w n x p q r z = space (eqb-true q)
       go false false true n x p q r z = number (eqb-true r)

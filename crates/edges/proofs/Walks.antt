@@ -14,7 +14,7 @@ use borrow.Author.Tests.{ltb-true, lt-ltb, le-ltb}
 use Rattle.rules.specs.Tokens.{lexeme, afterDotAt}
 use Rattle.rules.proofs.Tests.{and-both}
 use Rattle.lexer.specs.Ends.{endsAt}
-use Rattle.lexer.specs.declared.tokenizer.Lexed.{Lexed}
+use Rattle.lexer.specs.declared.token.Lexed.{Lexed}
 use Rattle.blocks.specs.Sets.{set}
 use Rattle.blocks.specs.Edges.{edge, edgeAfter}
 use Rattle.blocks.proofs.Sets.{set-lt}

@@ -7,7 +7,7 @@ use Rattle.rules.specs.Classes.{digit}
 use Rattle.rules.specs.Characters.{dollar, star, dash, dot, colon, less, equals, greater, at, backslash, bar}
 use Rattle.rules.specs.Kinds.{NoToken, Whitespace, Number, BareWord, DollarSign}
 use Rattle.rules.specs.Words.{startsWord}
-use Rattle.lexer.specs.Leads.{among, leadKind}
+use Rattle.lexer.specs.FirstBytes.{among, firstByteKind}
 
 -- The second bytes of what is longer than a byte.
 abbrev pub seconds : List ℕ
@@ -21,16 +21,16 @@ after b = cond (ltb b 0x80) (cond (startsWord b) 1 (cond (eqb b dot) 2 (cond (am
 unfoldable pub minds : ℕ → ℕ
 minds a =
     cond (eqb a dollar) 98
-    (cond (eqb (leadKind a) NoToken) 127
-    (cond (eqb (leadKind a) Whitespace) 16
-    (cond (eqb (leadKind a) Number) 22
-    (cond (eqb (leadKind a) BareWord) 18
-    (cond (ltb (leadKind a) 0x80) 0
+    (cond (eqb (firstByteKind a) NoToken) 127
+    (cond (eqb (firstByteKind a) Whitespace) 16
+    (cond (eqb (firstByteKind a) Number) 22
+    (cond (eqb (firstByteKind a) BareWord) 18
+    (cond (ltb (firstByteKind a) 0x80) 0
     (cond (eqb a backslash) 127 8))))))
 
 -- The kind of a token that starts with the byte and minds nothing of the next.
 unfoldable pub plainKind : ℕ → ℕ
-plainKind a = cond (eqb a dollar) DollarSign (leadKind a % 128)
+plainKind a = cond (eqb a dollar) DollarSign (firstByteKind a % 128)
 
 -- With the kind below.
 unfoldable pub lead : ℕ → ℕ

@@ -2,9 +2,9 @@
 use ahead::read_dollar;
 use blocks::edges;
 use lexer::syntax_kind::SyntaxKind;
-use lexer::tokenizer::end_of;
-use lexer::tokenizer::join;
-use lexer::tokenizer::kind_of;
+use lexer::token::end_of;
+use lexer::token::join;
+use lexer::token::kind_of;
 use lexer::tokenizer::next_token;
 use lexer::tokenizer::read_string;
 ghost use mathlib.Core.Path.{_≡_};

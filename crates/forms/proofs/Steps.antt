@@ -20,8 +20,8 @@ use Rattle.rules.specs.Cases.{written}
 use Rattle.rules.specs.declared.answer.Answer.{Answer}
 use Rattle.rules.proofs.Edges.{from-start, from-end, from-step, step-fits}
 use Rattle.rules.proofs.Stepping.{step-done}
-use Rattle.lexer.specs.Ends.{stepped}
-use Rattle.lexer.specs.declared.tokenizer.Stepped.{Stepped}
+use Rattle.steps.specs.Stepped.{stepped}
+use Rattle.steps.specs.declared.Stepped.{Stepped}
 use Rattle.lists.specs.Choices.{chosen}
 use Rattle.lists.specs.Plans.{storedBy}
 use Rattle.lists.specs.Picks.{Answered}

@@ -1,7 +1,5 @@
 // A reader: it holds the text and the byte offset of its next token.
 use lexer::token::Token;
-use lexer::tokenizer::Stepped;
-use lexer::tokenizer::step;
 use lists::listing::Choice;
 use lists::listing::Plan;
 use lists::packed::put_token;
@@ -10,6 +8,8 @@ use lists::picks::stored_by;
 use rules::answer::Answer;
 use rules::max_query_size;
 use rules::token_bytes;
+use steps::Stepped;
+use steps::step;
 ghost use mathlib.Core.Path.{_≡_};
 ghost use Prim.Native.Nat.{_+_, _*_, _/_, _≤_};
 ghost use lib.ListN.{length};
@@ -20,7 +20,7 @@ ghost use Rattle.rules.specs.Listing.{packToken};
 ghost use Rattle.rules.specs.Answers.{step};
 ghost use Rattle.rules.specs.Records.{stepsPlan, outcome, packedBy};
 ghost use Rattle.rules.specs.Cases.{written};
-ghost use Rattle.lexer.specs.Ends.{stepped};
+ghost use Rattle.steps.specs.Stepped.{stepped};
 ghost use Rattle.lists.specs.Plans.{Planned};
 ghost use Rattle.lists.specs.Picks.{Answered};
 ghost use Rattle.forms.specs.Reading.{atEnd};

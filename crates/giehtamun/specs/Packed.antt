@@ -4,15 +4,15 @@ use mathlib.Core.Path.{_≡_}
 use mathlib.Core.List.{List}
 use Rattle.rules.specs.Answers.{Written, Stepped, Part, Placed}
 
--- The number in bits 56 to 63, a kind in bits 48 to 55, the value in bits 0 to 47.
+-- The number in bits 56 to 63, a small extra number in bits 48 to 55, the value in bits 0 to 47.
 abbrev pub packed : ℕ → ℕ → ℕ → ℕ
-packed number kind value = number * 2 ^ 56 + kind * 2 ^ 48 + value
+packed number extra value = number * 2 ^ 56 + extra * 2 ^ 48 + value
 
 -- The answer of a call that writes, and what the lent buffer holds afterwards.
 abbrev pub packedWritten : ℕ → List ℕ → Written → Type 0
 packedWritten answer buffer w = (answer ≡ packed (w .number) 0 (w .value)) × (buffer ≡ w .buffer)
 
--- A step's answer; its value is the token's end, the next cursor.
+-- A step's answer: the kind beside it, and its value is the token's end, the next cursor.
 abbrev pub packedStep : Stepped → ℕ
 packedStep s = packed (s .number) (s .token .kind) (s .value)
 
@@ -20,10 +20,10 @@ packedStep s = packed (s .number) (s .token .kind) (s .value)
 abbrev pub packedPart : Part → ℕ
 packedPart p = packed (p .number) 0 (p .value)
 
--- The number in bits 56 to 63, the line in bits 28 to 55, the column in bits 0 to 27.
-abbrev pub packedLine : ℕ → ℕ → ℕ → ℕ
-packedLine number line column = number * 2 ^ 56 + line * 2 ^ 28 + column
+-- The number in bits 56 to 63, and two more in place of a value: the first in bits 28 to 55, the second in bits 0 to 27.
+abbrev pub packedHalves : ℕ → ℕ → ℕ → ℕ
+packedHalves number first second = number * 2 ^ 56 + first * 2 ^ 28 + second
 
--- A place's answer. Its value is the offset, which the caller has.
+-- A place's answer: line and column. Its value is the offset, which the caller has.
 abbrev pub packedPlace : Placed → ℕ
-packedPlace p = packedLine (p .number) (p .place .line) (p .place .column)
+packedPlace p = packedHalves (p .number) (p .place .line) (p .place .column)

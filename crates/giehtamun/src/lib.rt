@@ -1,5 +1,4 @@
 // The library as C functions. An answer is one number of 64 bits: see specs/Packed.antt.
-use lexer::tokenizer::step;
 use lists::listing::Settings;
 use lists::listing::tokenize;
 use lists::listing::tokenize_up_to_position;
@@ -8,32 +7,32 @@ use rules::answer::Answer;
 use spans::parts::shown_text_answer;
 use spans::parts::token_text_answer;
 use spans::places::place;
+use steps::step;
 ghost use mathlib.Core.Path.{_≡_};
-ghost use Prim.Native.Nat.{_≤_};
-ghost use Rattle.rules.specs.Limits.{maxQuerySize};
+ghost use Rattle.rules.specs.Widths.{Fits, FitsExtra, FitsHalves};
 ghost use Rattle.rules.specs.Answers.{listing, listingUpTo, step as stepAt, tokenText, shownText, maskedCopy, placeAt};
 ghost use Rattle.rules.specs.Cases.{numberOf, valueOf};
-ghost use Rattle.giehtamun.specs.Packed.{packed, packedWritten, packedStep, packedPart, packedLine, packedPlace};
+ghost use Rattle.giehtamun.specs.Packed.{packed, packedWritten, packedStep, packedPart, packedHalves, packedPlace};
 
-fn pack(number: u32, kind: u32, value: usize) -> u64
-    requires { ⌜ (number ≤ 255) × (kind ≤ 255) × (value ≤ maxQuerySize) ⌝ }
-    ensures { λ r. ⌜ r ≡ packed number kind value ⌝ }
+fn pack(number: u32, extra: u32, value: usize) -> u64
+    requires { ⌜ FitsExtra number extra value ⌝ }
+    ensures { λ r. ⌜ r ≡ packed number extra value ⌝ }
 {
-    (number as u64) * 0x100_0000_0000_0000 + (kind as u64) * 0x1_0000_0000_0000 + (value as u64)
+    (number as u64) * 0x100_0000_0000_0000 + (extra as u64) * 0x1_0000_0000_0000 + (value as u64)
 }
 
 fn pack_answer(answer: Answer) -> u64
-    requires { ⌜ (numberOf answer ≤ 255) × (valueOf answer ≤ maxQuerySize) ⌝ }
+    requires { ⌜ Fits (numberOf answer) (valueOf answer) ⌝ }
     ensures { λ r. ⌜ r ≡ packed (numberOf answer) 0 (valueOf answer) ⌝ }
 {
     pack(answer.number(), 0, answer.value())
 }
 
-fn pack_place(number: u32, line: usize, column: usize) -> u64
-    requires { ⌜ (number ≤ 255) × (line ≤ maxQuerySize) × (column ≤ maxQuerySize) ⌝ }
-    ensures { λ r. ⌜ r ≡ packedLine number line column ⌝ }
+fn pack_halves(number: u32, first: usize, second: usize) -> u64
+    requires { ⌜ FitsHalves number first second ⌝ }
+    ensures { λ r. ⌜ r ≡ packedHalves number first second ⌝ }
 {
-    (number as u64) * 0x100_0000_0000_0000 + (line as u64) * 0x1000_0000 + (column as u64)
+    (number as u64) * 0x100_0000_0000_0000 + (first as u64) * 0x1000_0000 + (second as u64)
 }
 
 #[no_mangle]
@@ -99,5 +98,5 @@ pub extern "C" fn giehtamun_place(text: &[u8], offset: usize) -> u64
     ensures { λ r. ⌜ r ≡ packedPlace (placeAt (now (text .entry)) offset) ⌝ }
 {
     let p = place(text, offset);
-    pack_place(p.number, p.line, p.column)
+    pack_halves(p.number, p.line, p.column)
 }

@@ -14,7 +14,7 @@ use Rattle.rules.specs.Lexeme.{Body, further, closedBy, openTo, enclosed}
 use Rattle.rules.proofs.Decoding.{chars-end}
 use Rattle.rules.proofs.Bodies.{quoted-at}
 use Rattle.runs.specs.Classes.{Skips}
-use Rattle.lexer.specs.declared.tokenizer.Lexed.{Lexed}
+use Rattle.lexer.specs.declared.token.Lexed.{Lexed}
 use Rattle.lexer.specs.Ends.{endsAt}
 use Rattle.lexer.proofs.Skips.{over, neither}
 

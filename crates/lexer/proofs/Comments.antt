@@ -21,7 +21,7 @@ use Rattle.rules.proofs.Tests.{eqb-true, and-left, and-right}
 use Rattle.rules.proofs.Decoding.{within-text, chars-ascii, chars-end, code-high}
 use Rattle.rules.proofs.Bytes.{byte-step, next-is}
 use Rattle.rules.proofs.Comments.{comment-taken, comment-open, comment-less, comment-close, comment-other}
-use Rattle.lexer.specs.declared.tokenizer.Lexed.{Lexed}
+use Rattle.lexer.specs.declared.token.Lexed.{Lexed}
 use Rattle.lexer.specs.Ends.{endsAt}
 use Rattle.runs.specs.Classes.{Skips}
 use Rattle.lexer.proofs.Runs.{ascii}

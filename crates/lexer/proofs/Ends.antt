@@ -10,7 +10,7 @@ use Rattle.rules.specs.Lexeme.{Lexeme, is, Body, enclosed}
 use Rattle.rules.specs.Numbers.{Figures}
 use Rattle.rules.specs.Tokens.{Token, token, tokenAt, lexeme, afterDotAt}
 use Rattle.rules.proofs.Edges.{step-fits}
-use Rattle.lexer.specs.declared.tokenizer.Lexed.{Lexed}
+use Rattle.lexer.specs.declared.token.Lexed.{Lexed}
 use Rattle.lexer.specs.declared.tokenizer.Part.{Part}
 use Rattle.rules.specs.Limits.{maxQuerySize}
 use Rattle.rules.proofs.KnownKinds.{kind-known}

@@ -17,7 +17,7 @@ use Rattle.rules.proofs.Decoding.{within-text}
 use Rattle.rules.proofs.Dollars.{here-none}
 use Rattle.rules.proofs.HereDocs.{tags-none, opening, opening-first, opening-plain, opening-size, here-by, later, begins-next, begins-differ, find-pass, no-dollar}
 use Rattle.runs.specs.Classes.{Skips}
-use Rattle.lexer.specs.declared.tokenizer.Lexed.{Lexed}
+use Rattle.lexer.specs.declared.token.Lexed.{Lexed}
 use Rattle.lexer.specs.Ends.{endsAt}
 use Rattle.lexer.specs.HereDocs.{Delimiter, TagEnd, foundEnd}
 use Rattle.lexer.proofs.Skips.{over}

@@ -1,9 +1,9 @@
--- What the proofs of the readers share. A reader's own proof is in tokenizer/, under its name.
+-- What the proofs of the readers share. A function's own proof is under its module and name.
 -- Answers, matches on a byte, and what a first byte tells.
 pub mod Ends
 pub mod Matches
-pub mod Leads
-pub mod Shorts
+pub mod FirstByteKinds
+pub mod Decided
 pub mod Letters
 pub mod FirstBytes
 -- Rules 1 and 3: runs of a class, and the classes by the code's tests.
@@ -18,4 +18,4 @@ pub mod Bodies
 pub mod HereDocs
 -- Rules 6 and 7.
 pub mod Numbers
-pub mod ShortNumbers
+pub mod FastNumbers

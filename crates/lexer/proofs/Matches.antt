@@ -11,7 +11,7 @@ use lib.Bits.{bitOr, or-zero-l, or-zero-r}
 use Rattle.rules.specs.Characters.{exclamation, percent, roundOpen, roundClose, star, plus, comma, dash, dot, slash, colon, semicolon, less, equals, greater, question, at, capitalG, squareOpen, backslash, squareClose, caret, smallG, curlyOpen, bar, curlyClose}
 use Rattle.rules.specs.Kinds.{Arrow, Equals, NotEquals, DoubleColon, LessOrEquals, GreaterOrEquals, Concatenation, DoubleAt, VerticalDelimiter, ErrorToken}
 use Rattle.rules.specs.Operators.{single, pair}
-use Rattle.lexer.specs.Leads.{among, pairs}
+use Rattle.lexer.specs.FirstBytes.{among, pairs}
 use Rattle.rules.proofs.Tests.{clash, eqb-true, or-cases}
 use Rattle.rules.proofs.Tables.{agree-at}
 

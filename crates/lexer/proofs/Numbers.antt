@@ -8,10 +8,10 @@ use lib.ListN.{take, drop}
 use Rattle.rules.specs.Utf8.{Char, chars}
 use Rattle.rules.specs.Kinds.{Number, BareWord, ErrorWrongNumber}
 use Rattle.rules.specs.Lexeme.{first, is, run}
-use Rattle.rules.specs.Numbers.{figures, numberWord, goesOn, allChars, closing, number}
+use Rattle.rules.specs.Numbers.{figures, numberWord, startsSuffix, allChars, closing, number}
 use Rattle.rules.proofs.Numbers.{closing-number, closing-word, number-well, number-wrong}
 use Rattle.rules.proofs.NumberBytes.{LeadAt, ascii-rest}
-use Rattle.lexer.specs.declared.tokenizer.Lexed.{Lexed}
+use Rattle.lexer.specs.declared.token.Lexed.{Lexed}
 use Rattle.lexer.specs.Ends.{endsAt, AsciiTo}
 use Rattle.lexer.proofs.Ends.{lexed-is}
 
@@ -28,13 +28,13 @@ module _ (s : List ℕ) (i j : ℕ) (a : AsciiTo s i j) where
       let e : i + (j - i) ≡ j = omega (arith, a .from) in
       ascii-rest s (j - i) i (omega (arith, a .from, a .upto)) (λ k p q. a .ascii k p (omega (arith, a .from))) ∙ ap (λ (n : ℕ). chars (drop n s)) e
 
-  pub stops : {b : Bool} → b ≡ goesOn (first (chars (drop j s))) → b ≡ false → record { kind = Number; end = j } ≡ endsAt i (closing (j - i) cs)
-  stops e f = lexed-is i (closing-number (j - i) cs (ap (λ (l : List Char). goesOn (first l)) rest ∙ sym e ∙ f)) j (omega (arith, a .from))
+  pub stops : {b : Bool} → b ≡ startsSuffix (first (chars (drop j s))) → b ≡ false → record { kind = Number; end = j } ≡ endsAt i (closing (j - i) cs)
+  stops e f = lexed-is i (closing-number (j - i) cs (ap (λ (l : List Char). startsSuffix (first l)) rest ∙ sym e ∙ f)) j (omega (arith, a .from))
 
-  module _ {b : Bool} (e : b ≡ goesOn (first (chars (drop j s)))) (f : b ≡ true) (end : ℕ) (g : end ≡ j + run numberWord (chars (drop j s))) where
+  module _ {b : Bool} (e : b ≡ startsSuffix (first (chars (drop j s)))) (f : b ≡ true) (end : ℕ) (g : end ≡ j + run numberWord (chars (drop j s))) where
     pub goes : {w : Bool} → w ≡ allChars numberWord (take (j - i) cs) → (v : Bool) → w ≡ v → record { kind = cond v BareWord ErrorWrongNumber; end = end } ≡ endsAt i (closing (j - i) cs)
     goes p v q =
-        lexed-is i (closing-word (j - i) cs (ap (λ (l : List Char). goesOn (first l)) rest ∙ sym e ∙ f) ∙ ap (λ (x : Bool). is (cond x BareWord ErrorWrongNumber) (j - i + run numberWord (drop (j - i) cs))) (sym p ∙ q)) end
+        lexed-is i (closing-word (j - i) cs (ap (λ (l : List Char). startsSuffix (first l)) rest ∙ sym e ∙ f) ∙ ap (λ (x : Bool). is (cond x BareWord ErrorWrongNumber) (j - i + run numberWord (drop (j - i) cs))) (sym p ∙ q)) end
         (let r = ap (run numberWord) rest in omega (arith, a .from))
 
 -- a number whose figures are known, and end at j

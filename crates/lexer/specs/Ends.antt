@@ -11,10 +11,8 @@ use Rattle.rules.specs.Lexeme.{Lexeme, is}
 use Rattle.rules.specs.Operators.{operator}
 use Rattle.rules.specs.Numbers.{Opening, Figures}
 use Rattle.rules.specs.Tokens.{Token, lexeme, afterDotAt}
-use Rattle.rules.specs.Answers.{Stepped}
 use Rattle.lexer.specs.declared.token.Token.{Token as CodeToken}
-use Rattle.lexer.specs.declared.tokenizer.Stepped.{Stepped as CodeStepped}
-use Rattle.lexer.specs.declared.tokenizer.Lexed.{Lexed}
+use Rattle.lexer.specs.declared.token.Lexed.{Lexed}
 use Rattle.lexer.specs.declared.tokenizer.Opened.{Opened}
 use Rattle.lexer.specs.declared.tokenizer.Part.{Part}
 
@@ -30,9 +28,9 @@ joined l = l .kind * 2 ^ 32 + l .end % 2 ^ 32
 abbrev pub Lexes : List ℕ → ℕ → ℕ → Type 0
 Lexes s at r = record { kind = r / 2 ^ 32 % 64; end = r % 2 ^ 32 } ≡ endsAt at (lexeme (afterDotAt s at) (drop at s))
 
--- What a short look gives is what it should be, or no token.
-abbrev pub Told : Lexed → Lexed → Type 0
-Told r l = (r .kind ≡ NoToken → ⊥) → r ≡ l
+-- What the first bytes tell is the token, or no token where they leave it undecided.
+abbrev pub DecidedAs : Lexed → Lexed → Type 0
+DecidedAs r l = (r .kind ≡ NoToken → ⊥) → r ≡ l
 
 -- How a number opens.
 abbrev pub opened : Opening → Opened
@@ -58,9 +56,6 @@ pub record AsciiTo (s : List ℕ) (i j : ℕ) : Type 0 where
   pub upto : j ≤ length s
   pub ascii : (k : ℕ) → i ≤ k → k < j → getD s k 0 < 0x80
 
--- A token, and what a step gives.
+-- A token.
 abbrev pub tokenOf : Token → CodeToken
 tokenOf t = record { kind = t .kind; start = t .start; end = t .end }
-
-abbrev pub stepped : Stepped → CodeStepped
-stepped a = record { number = a .number; value = a .value; token = tokenOf (a .token); cursor = a .cursor }

@@ -2,6 +2,6 @@
 pub mod Ends
 pub mod Steps
 pub mod Words
-pub mod Leads
+pub mod FirstBytes
 pub mod Quotes
 pub mod HereDocs

@@ -1,114 +1,60 @@
 // The readers, under the Rust's names and in its order. Each takes the text and an offset; none needs the text to be UTF-8.
+use crate::bytes::after_dot;
+use crate::bytes::is_ascii_space;
+use crate::bytes::is_digit;
+use crate::bytes::is_exponent_mark;
+use crate::bytes::is_hex_digit;
+use crate::bytes::is_radix_digit;
+use crate::bytes::is_spaceship;
+use crate::bytes::is_tag_byte;
+use crate::bytes::is_word_byte;
+use crate::bytes::only;
+use crate::bytes::pair;
+use crate::bytes::sign_len;
+use crate::bytes::skip_spaces;
+use crate::bytes::skip_to;
+use crate::bytes::skip_to_either;
+use crate::bytes::skip_words;
+use crate::bytes::two_at;
+use crate::fast::fast_number;
+use crate::fast::fast_operator;
+use crate::fast::first_byte_kind;
+use crate::fast::is_short_space;
+use crate::fast::number_if_ended;
+use crate::fast::other_len;
 use crate::syntax_kind::SyntaxKind;
-use crate::token::Token;
-use classes::tables::AlphabeticTable;
-use classes::tables::NumericTable;
-use runs::Class;
+use crate::token::Lexed;
+use crate::token::join;
+use classes::tables::ClassTable;
 use runs::skip_pairs;
 use utf8::byte_at;
-use utf8::is_tail;
 use utf8::unit_at;
 use utf8::unit_code;
 use utf8::unit_len;
 ghost use mathlib.Core.Path.{_≡_};
-ghost use mathlib.Core.Bool.{Bool, true, false, not, cond, _&&_};
-ghost use Prim.Native.Nat.{_+_, _-_, _/_, _%_, _^_, _≤_, _<_};
+ghost use mathlib.Core.Bool.{Bool, true, false, _&&_};
+ghost use Prim.Native.Nat.{_+_, _-_, _≤_, _<_};
 ghost use lib.ListN.{length, getD, take, drop};
-ghost use lib.Dec.{ltb, eqb};
-ghost use mathlib.Core.List.{[], _∷_};
+ghost use lib.Dec.{eqb};
 ghost use Rattle.rules.specs.Utf8.{charAt, chars};
-ghost use Rattle.rules.specs.Tables.{alphabeticTable, numericTable};
+ghost use Rattle.classes.specs.Held.{Held};
 ghost use Rattle.rules.specs.Classes.{whiteSpace, digit, hexDigit};
 ghost use Rattle.rules.specs.Characters.{dollar, underscore, backslash};
-ghost use Rattle.rules.specs.Kinds.{NoToken, Number, Comment, ErrorMultilineCommentIsNotClosed};
-ghost use Rattle.rules.specs.Lexeme.{first, two, run, enclosed};
+ghost use Rattle.rules.specs.Kinds.{NoToken, Comment, ErrorMultilineCommentIsNotClosed};
+ghost use Rattle.rules.specs.Lexeme.{first, run, enclosed};
 ghost use Rattle.rules.specs.Spaces.{notLineFeed, commentBody};
-ghost use Rattle.rules.specs.Operators.{single, pair, spaceship};
-ghost use Rattle.rules.specs.Words.{startsWord, wordCharacter};
-ghost use Rattle.runs.specs.Classes.{edges, Skips};
+ghost use Rattle.rules.specs.Operators.{single};
+ghost use Rattle.rules.specs.Words.{wordCharacter};
 ghost use Rattle.rules.specs.Quotes.{quotedBody, upTo};
-ghost use Rattle.rules.specs.Dollars.{tagByte, begins, find, hereDoc, dollarLexeme};
-ghost use Rattle.rules.specs.Numbers.{digits, radixDigit, opening, fraction, marks, signs, exponent, numberWord, goesOn, allChars, closing, number};
+ghost use Rattle.rules.specs.Dollars.{begins, find, hereDoc, dollarLexeme};
+ghost use Rattle.rules.specs.Numbers.{digits, radixDigit, opening, fraction, exponent, numberWord, startsSuffix, allChars, closing, number};
 ghost use Rattle.rules.specs.Tokens.{lexeme, afterDotAt};
-ghost use Rattle.rules.specs.Answers.{refusedStep, step};
-ghost use Rattle.lexer.specs.Ends.{endsAt, joined, Told, opened, partAt, operatorAt, Unruled, AsciiTo, stepped};
+ghost use Rattle.lexer.specs.Ends.{endsAt, joined, opened, partAt, operatorAt, AsciiTo};
 ghost use Rattle.lexer.specs.Steps.{Step};
-ghost use Rattle.lexer.specs.Words.{asciiWord, wordWith, wordMask};
-ghost use Rattle.lexer.specs.Leads.{leadKind, leadRow, Operates};
+ghost use Rattle.lexer.specs.Words.{wordWith};
+ghost use Rattle.lexer.specs.FirstBytes.{firstByteKind, Operates};
 ghost use Rattle.lexer.specs.Quotes.{curlyClose};
 ghost use Rattle.lexer.specs.HereDocs.{Ascii, Delimiter, TagEnd, foundEnd};
-
-// What a reader finds: the kind, and where it ends.
-pub struct Lexed {
-    pub kind: u32,
-    pub end: usize,
-}
-
-// What a step gives: document 01's number and value, the token, and the cursor to go on from.
-pub struct Stepped {
-    pub number: u32,
-    pub value: usize,
-    pub token: Token,
-    pub cursor: usize,
-}
-
-fn refused_step(number: u32, cursor: usize) -> Stepped
-    ensures { λ r. ⌜ r ≡ stepped (refusedStep number cursor) ⌝ }
-{
-    Stepped {
-        number,
-        value: 0,
-        token: Token {
-            kind: 0,
-            start: 0,
-            end: 0,
-        },
-        cursor,
-    }
-}
-
-// One token at a cursor. The text is not tested for UTF-8.
-pub fn step(text: &[u8], cursor: usize) -> Stepped
-    ensures { λ r. ⌜ r ≡ stepped (step (now (text .entry)) cursor) ⌝ }
-{
-    if text.len() > rules::max_query_size() {
-        return refused_step(1, cursor);
-    }
-    if cursor > text.len() {
-        return refused_step(4, cursor);
-    }
-    let l = next_token(&text[0..], cursor);
-    let end = end_of(l);
-    Stepped {
-        number: 0,
-        value: end,
-        token: Token {
-            kind: kind_of(l),
-            start: cursor as u32,
-            end: end as u32,
-        },
-        cursor: end,
-    }
-}
-
-// A lexeme in one number: what comes back from a function out of line goes through memory, and a number doesn't.
-pub fn join(kind: u32, end: usize) -> u64
-    ensures { λ r. ⌜ r ≡ joined (record { kind = kind; end = end }) ⌝ }
-{
-    kind as u64 * 0x1_0000_0000 + end as u64 % 0x1_0000_0000
-}
-
-pub fn kind_of(lexed: u64) -> u32
-    ensures { λ r. ⌜ r ≡ lexed / 2 ^ 32 ⌝ }
-{
-    (lexed / 0x1_0000_0000) as u32
-}
-
-pub fn end_of(lexed: u64) -> usize
-    ensures { λ r. ⌜ r ≡ lexed % 2 ^ 32 ⌝ }
-{
-    (lexed % 0x1_0000_0000) as usize
-}
 
 // The token at `start`, joined. Each reader is called here and in `last_token`: called at two places it stays out of line, and this
 // function is small. It is handed `&text[0..]`, whose pointer and length go in registers.
@@ -184,7 +130,7 @@ fn number_token(text: &[u8], start: usize) -> u64
 }
 
 fn other_token(text: &[u8], start: usize) -> u64
-    requires { ⌜ (start < length (now text)) × (leadKind (getD (now text) start 0) ≡ NoToken) ⌝ }
+    requires { ⌜ (start < length (now text)) × (firstByteKind (getD (now text) start 0) ≡ NoToken) ⌝ }
     ensures { λ r. ⌜ r ≡ joined (endsAt start (lexeme (afterDotAt (now (text .entry)) start) (drop start (now (text .entry))))) ⌝ }
 {
     let l = read_other(text, start);
@@ -197,176 +143,6 @@ fn longer_token(text: &[u8], start: usize, kind: u32) -> u64
 {
     let l = read_longer(text, start, kind);
     join(l.kind, l.end)
-}
-
-// What nothing short tells.
-fn untold(start: usize) -> Lexed
-    ensures { λ r. ⌜ r ≡ record { kind = NoToken; end = «start» } ⌝ }
-{
-    Lexed {
-        kind: SyntaxKind::NoToken,
-        end: start,
-    }
-}
-
-// Eight kinds that `first_byte_kind` gives, the first lowest: a match that becomes a table.
-fn first_byte_row(row: u8) -> u64
-    requires { ⌜ row < 32 ⌝ }
-    ensures { λ r. ⌜ r ≡ leadRow row ⌝ }
-{
-    match row {
-        0 => 0x2F2F_2F2F_2F2F_2F2F,
-        1 => 0x2F2F_0101_0101_012F,
-        2 => 0x2F2F_2F2F_2F2F_2F2F,
-        3 => 0x2F2F_2F2F_2F2F_2F2F,
-        4 => 0x002F_1700_2F00_AD01,
-        5 => 0x9610_940E_1311_0908,
-        6 => 0x0303_0303_0303_0303,
-        7 => 0x18A1_9C9F_0F99_0303,
-        8 => 0x0404_0404_0404_04A4,
-        9 => 0x0404_0404_0404_0404,
-        10 => 0x0404_0404_0404_0404,
-        11 => 0x041B_0BAF_0A04_0404,
-        12 => 0x0404_0404_0404_0400,
-        13 => 0x0404_0404_0404_0404,
-        14 => 0x0404_0404_0404_0404,
-        15 => 0x2F2F_0DAE_0C04_0404,
-        _ => 0,
-    }
-}
-
-// What a token's first byte tells of its kind.
-fn first_byte_kind(a: u8) -> u32
-    ensures { λ r. ⌜ r ≡ leadKind a ⌝ }
-{
-    ((first_byte_row(a / 8) >> (a % 8 * 8)) % 256) as u32
-}
-
-// True only if the white space at `start` is one byte: what follows is of ASCII and no white space, or `other_len` tells it.
-fn is_short_space(text: &[u8], start: usize) -> bool
-    requires { ⌜ (start + 4 ≤ length (now text)) × (getD (now text) start 0 < 0x80) × (whiteSpace (getD (now text) start 0) ≡ true) ⌝ }
-    ensures { λ r. ⌜ (r ≡ true → 1 ≡ run whiteSpace (chars (drop start (now (text .entry))))) ⌝ }
-{
-    let b = text[start + 1];
-    if b < 0x80 {
-        return !is_ascii_space(b);
-    }
-    other_len(&text[0..], start + 1) != 0
-}
-
-// The bytes of a character past ASCII at which no rule starts a token, or 0 where a few bytes do not tell that: letters from U+00C0 on, but
-// not those from U+1680 to U+3000, among which are white space, quotes and the minus.
-fn other_len(text: &[u8], at: usize) -> usize
-    requires { ⌜ at + 3 ≤ length (now text) ⌝ }
-    ensures { λ r. ⌜ ((r ≡ 0 → ⊥) → Unruled (now (text .entry)) at r) ⌝ }
-{
-    let a = text[at];
-    let b = text[at + 1];
-    if ((0xC3 <= a) & (a <= 0xDF)) & is_tail(b) {
-        return 2;
-    }
-    let c = text[at + 2];
-    if ((0xE1 <= a) & (a <= 0xEC)) & (is_tail(b) & is_tail(c)) {
-        let code = a as u32 % 16 * 4096 + b as u32 % 64 * 64 + c as u32 % 64;
-        if (code < 0x1680) | (0x3000 < code) {
-            return 3;
-        }
-    }
-    0
-}
-
-// One or two characters, where neither a comment nor a third character is meant; `kind` is that of the first alone.
-fn fast_operator(text: &[u8], start: usize, kind: u32) -> Lexed
-    requires { ⌜ (start + 3 ≤ length (now text)) × Operates (getD (now text) start 0) × (single (getD (now text) start 0) ≡ kind) ⌝ }
-    ensures { λ r. ⌜ Told r (endsAt start (lexeme (afterDotAt (now (text .entry)) start) (drop start (now (text .entry))))) ⌝ }
-{
-    let a = text[start];
-    let b = text[start + 1];
-    if is_spaceship(a, b, text[start + 2]) | (a == b'-') & (b == b'-') | (a == b'/') & (b == b'*') {
-        return untold(start);
-    }
-    let p = pair(a, b);
-    if p != SyntaxKind::NoToken {
-        return Lexed {
-            kind: p,
-            end: start + 2,
-        };
-    }
-    Lexed {
-        kind,
-        end: start + 1,
-    }
-}
-
-// A number of one or two runs of digits that ends at a byte of ASCII at which none goes on.
-fn fast_number(text: &[u8], start: usize) -> Lexed
-    requires { ⌜ (start < length (now text)) × (digit (getD (now text) start 0) ≡ true) ⌝ }
-    ensures { λ r. ⌜ Told r (endsAt start (lexeme (afterDotAt (now (text .entry)) start) (drop start (now (text .entry))))) ⌝ }
-{
-    let j = skip_digits(text, start + 1);
-    if text.len() - j < 8 {
-        return untold(start);
-    }
-    if text[j] != b'.' {
-        return number_if_ended(text[j], start, j);
-    }
-    if after_dot(text, start) {
-        return untold(start);
-    }
-    let i = skip_digits(text, j + 1);
-    if text.len() - i < 8 {
-        return untold(start);
-    }
-    number_if_ended(text[i], start, i)
-}
-
-// The number up to `end`, where the byte `b` there is of ASCII and no word's.
-fn number_if_ended(b: u8, start: usize, end: usize) -> Lexed
-    ensures { λ r. ⌜ ((r .kind ≡ NoToken → ⊥) → (r ≡ record { kind = Number; end = «end» }) × (b < 0x80) × (wordCharacter b ≡ false)) ⌝ }
-{
-    if (b < 0x80) & !is_word_byte(b, false) {
-        return Lexed {
-            kind: SyntaxKind::Number,
-            end,
-        };
-    }
-    untold(start)
-}
-
-// The bytes of ASCII from `at` on that a word has, but of the last seven of the text perhaps none.
-fn skip_words(text: &[u8], at: usize) -> usize
-    requires { ⌜ at ≤ length (now text) ⌝ }
-    ensures { λ r. ⌜ Skips asciiWord (now (text .entry)) at r ⌝ }
-{
-    let class = Class {
-        a: b'0',
-        b: b':',
-        c: b'A',
-        d: b'[',
-        e: b'_',
-        f: b'`',
-        g: b'a',
-        h: b'{',
-    };
-    runs::skip(text, at, false, class)
-}
-
-// Digits, likewise.
-fn skip_digits(text: &[u8], at: usize) -> usize
-    requires { ⌜ at ≤ length (now text) ⌝ }
-    ensures { λ r. ⌜ Skips digit (now (text .entry)) at r ⌝ }
-{
-    let class = Class {
-        a: b'0',
-        b: b':',
-        c: 0,
-        d: 0,
-        e: 0,
-        f: 0,
-        g: 0,
-        h: 0,
-    };
-    runs::skip(text, at, false, class)
 }
 
 // A token that starts with a character past ASCII, or with a byte that begins none.
@@ -411,7 +187,7 @@ fn read_non_ascii(text: &[u8], start: usize) -> Lexed
 
 // A token that starts with a quote, a `$`, or a byte past ASCII.
 fn read_other(text: &[u8], start: usize) -> Lexed
-    requires { ⌜ (start < length (now text)) × (leadKind (getD (now text) start 0) ≡ NoToken) ⌝ }
+    requires { ⌜ (start < length (now text)) × (firstByteKind (getD (now text) start 0) ≡ NoToken) ⌝ }
     ensures { λ r. ⌜ r ≡ endsAt start (lexeme (afterDotAt (now (text .entry)) start) (drop start (now (text .entry)))) ⌝ }
 {
     match text[start] {
@@ -458,41 +234,6 @@ fn read_longer(text: &[u8], start: usize, kind: u32) -> Lexed
     read_operator(text, start, kind)
 }
 
-// The kind where the test holds, or 0.
-fn when(test: bool, kind: u32) -> u32
-    ensures { λ r. ⌜ r ≡ cond test kind 0 ⌝ }
-{
-    if test { kind } else { 0 }
-}
-
-// The kind of two characters together, or 0 where they are none. No test depends on another, so that none is a jump.
-fn pair(a: u8, b: u8) -> u32
-    ensures { λ r. ⌜ r ≡ pair a b ⌝ }
-{
-    when((a == b'-') & (b == b'>'), SyntaxKind::Arrow)
-        | when((a == b':') & (b == b':'), SyntaxKind::DoubleColon)
-        | when((a == b'|') & (b == b'|'), SyntaxKind::Concatenation)
-        | when((a == b'@') & (b == b'@'), SyntaxKind::DoubleAt)
-        | when((a == b'!') & (b == b'='), SyntaxKind::NotEquals)
-        | when(
-            (a == b'=') & ((b == b'=') | (b == b'>')),
-            SyntaxKind::Equals,
-        )
-        | when((a == b'<') & (b == b'>'), SyntaxKind::NotEquals)
-        | when((a == b'<') & (b == b'='), SyntaxKind::LessOrEquals)
-        | when((a == b'>') & (b == b'='), SyntaxKind::GreaterOrEquals)
-        | when(
-            (a == b'\\') & ((b == b'G') | (b == b'g')),
-            SyntaxKind::VerticalDelimiter,
-        )
-}
-
-fn is_spaceship(a: u8, b: u8, c: u8) -> bool
-    ensures { λ r. ⌜ r ≡ spaceship a b c ⌝ }
-{
-    ((a == b'<') & (b == b'=')) & (c == b'>') | ((a == b'=') & (b == b'>')) & (c == b'<')
-}
-
 // The longest of the choices at a character of ASCII; `kind` is that of the first byte alone.
 fn read_operator(text: &[u8], start: usize, kind: u32) -> Lexed
     requires { ⌜ (start < length (now text)) × (getD (now text) start 0 < 0x80) × (single (getD (now text) start 0) ≡ kind) ⌝ }
@@ -520,12 +261,6 @@ fn read_operator(text: &[u8], start: usize, kind: u32) -> Lexed
     }
 }
 
-fn is_ascii_space(b: u8) -> bool
-    ensures { λ r. ⌜ r ≡ (ltb b 0x80 && whiteSpace b) ⌝ }
-{
-    (b == b' ') | (b'\t' <= b) & (b <= b'\r')
-}
-
 // The bytes of the White_Space character at `at`, or 0 where there is none.
 fn space_len(text: &[u8], at: usize) -> usize
     ensures { λ r. ⌜ Step whiteSpace (now (text .entry)) at r ⌝ }
@@ -536,24 +271,6 @@ fn space_len(text: &[u8], at: usize) -> usize
     } else {
         0
     }
-}
-
-// Over white space of ASCII, by eights: what is left of it is the caller's.
-fn skip_spaces(text: &[u8], at: usize) -> usize
-    requires { ⌜ at ≤ length (now text) ⌝ }
-    ensures { λ r. ⌜ Skips (λ b. ltb b 0x80 && whiteSpace b) (now (text .entry)) at r ⌝ }
-{
-    let k = Class {
-        a: b'\t',
-        b: 14,
-        c: b' ',
-        d: b'!',
-        e: 0,
-        f: 0,
-        g: 0,
-        h: 0,
-    };
-    runs::skip(text, at, false, k)
 }
 
 fn read_whitespace(text: &[u8], at: usize) -> usize
@@ -581,17 +298,6 @@ fn read_whitespace(text: &[u8], at: usize) -> usize
     j
 }
 
-// Up to a byte `a`, likewise.
-fn skip_to(text: &[u8], at: usize, a: u8) -> usize
-    requires { ⌜ (at ≤ length (now text)) × (a < 0x80) ⌝ }
-    ensures { λ r. ⌜ Skips (λ x. not (eqb x a)) (now (text .entry)) at r ⌝ }
-{
-    if byte_at(text, at) == a {
-        return at;
-    }
-    runs::skip(text, at, true, only(a))
-}
-
 // No byte of a longer character is a line feed, so bytes do.
 fn read_single_line_comment(text: &[u8], at: usize) -> usize
     ensures { λ r. ⌜ r ≡ at + run notLineFeed (chars (drop at (now (text .entry)))) ⌝ }
@@ -607,42 +313,6 @@ fn read_single_line_comment(text: &[u8], at: usize) -> usize
         j += 1;
     }
     j
-}
-
-// The two bytes at `at` are `a` and `b`. A byte past the end reads as 0, which `b` is not.
-fn two_at(text: &[u8], at: usize, a: u8, b: u8) -> bool
-    requires { ⌜ (at < length (now text)) × (0 < b) ⌝ }
-    ensures { λ r. ⌜ r ≡ two (getD (now (text .entry)) at 0) (getD (now (text .entry)) (at + 1) 0) a b ⌝ }
-{
-    if text[at] != a {
-        return false;
-    }
-    if text.len() - at == 1 {
-        return false;
-    }
-    text[at + 1] == b
-}
-
-// Up to a byte `a` or `b`, likewise.
-fn skip_to_either(text: &[u8], at: usize, a: u8, b: u8) -> usize
-    requires { ⌜ (at ≤ length (now text)) × (a < 0x80) × (b < 0x80) × (a ≡ b → ⊥) ⌝ }
-    ensures { λ r. ⌜ Skips (λ x. not (eqb x a) && not (eqb x b)) (now (text .entry)) at r ⌝ }
-{
-    let x = byte_at(text, at);
-    if (x == a) | (x == b) {
-        return at;
-    }
-    let k = Class {
-        a,
-        b: a + 1,
-        c: b,
-        d: b + 1,
-        e: 0,
-        f: 0,
-        g: 0,
-        h: 0,
-    };
-    runs::skip(text, at, true, k)
 }
 
 // `deeper` comments are open inside the outermost one. Only ASCII counts here, so bytes do.
@@ -726,34 +396,17 @@ pub struct Part {
     pub end: usize,
 }
 
-fn marks(hex: bool, b: u8) -> bool
-    ensures { λ r. ⌜ r ≡ marks hex b ⌝ }
-{
-    if hex {
-        (b == b'p') | (b == b'P')
-    } else {
-        (b == b'e') | (b == b'E')
-    }
-}
-
-// The bytes of a sign: 1 or 0.
-fn signs(b: u8) -> usize
-    ensures { λ r. ⌜ r ≡ signs b ⌝ }
-{
-    if (b == b'+') | (b == b'-') { 1 } else { 0 }
-}
-
 // The exponent, if its letter comes next.
 fn read_exponent(text: &[u8], at: usize, hex: bool) -> Part
     ensures { λ r. ⌜ r ≡ partAt at (exponent hex (chars (drop at (now (text .entry))))) ⌝ }
 {
-    if !marks(hex, byte_at(text, at)) {
+    if !is_exponent_mark(hex, byte_at(text, at)) {
         return Part {
             well: true,
             end: at,
         };
     }
-    let j = at + (1 + signs(byte_at(text, at + 1)));
+    let j = at + (1 + sign_len(byte_at(text, at + 1)));
     if !is_digit(byte_at(text, j)) {
         return Part {
             well: false,
@@ -764,17 +417,6 @@ fn read_exponent(text: &[u8], at: usize, hex: bool) -> Part
         well: true,
         end: read_digits(text, j),
     }
-}
-
-// The byte before `start` is a dot: the number is then a place in a tuple, as in `x.1.1`.
-fn after_dot(text: &[u8], start: usize) -> bool
-    requires { ⌜ start < length (now text) ⌝ }
-    ensures { λ r. ⌜ r ≡ afterDotAt (now (text .entry)) start ⌝ }
-{
-    if start == 0 {
-        return false;
-    }
-    text[start - 1] == b'.'
 }
 
 fn read_number(text: &[u8], start: usize) -> Lexed
@@ -801,26 +443,8 @@ fn read_number(text: &[u8], start: usize) -> Lexed
     read_identifier_starting_with_number(text, start, e.end)
 }
 
-fn is_digit(b: u8) -> bool
-    ensures { λ r. ⌜ r ≡ digit b ⌝ }
-{
-    (b'0' <= b) & (b <= b'9')
-}
-
-fn is_hex_digit(b: u8) -> bool
-    ensures { λ r. ⌜ r ≡ hexDigit b ⌝ }
-{
-    is_digit(b) | (b'A' <= b) & (b <= b'F') | (b'a' <= b) & (b <= b'f')
-}
-
-fn is_radix_digit(hex: bool, b: u8) -> bool
-    ensures { λ r. ⌜ r ≡ radixDigit hex b ⌝ }
-{
-    if hex { is_hex_digit(b) } else { is_digit(b) }
-}
-
 // The byte at j is a `_` that joins two digits.
-fn joins(text: &[u8], j: usize, hex: bool, after: bool) -> bool
+fn is_separator(text: &[u8], j: usize, hex: bool, after: bool) -> bool
     requires { ⌜ j < length (now text) ⌝ }
     ensures { λ r. ⌜ r ≡ (eqb (getD (now (text .entry)) j 0) underscore && after && radixDigit hex (getD (now (text .entry)) (j + 1) 0)) ⌝ }
 {
@@ -836,7 +460,7 @@ fn read_run(text: &[u8], at: usize, hex: bool) -> usize
     while j < text.len() {
         let digit = is_radix_digit(hex, text[j]);
         if !digit {
-            if !joins(text, j, hex, after) {
+            if !is_separator(text, j, hex, after) {
                 return j;
             }
         }
@@ -869,8 +493,8 @@ fn read_radix_digits(text: &[u8], at: usize, hex: bool) -> usize
 }
 
 // The character at `at` makes a word of the number before it.
-fn goes_on(text: &[u8], at: usize) -> bool
-    ensures { λ r. ⌜ r ≡ goesOn (first (chars (drop at (now (text .entry))))) ⌝ }
+fn starts_suffix(text: &[u8], at: usize) -> bool
+    ensures { λ r. ⌜ r ≡ startsSuffix (first (chars (drop at (now (text .entry))))) ⌝ }
 {
     let c = unit_code(unit_at(text, at));
     classes::is_alphabetic(c) | (c == 0x5F)
@@ -891,7 +515,7 @@ fn is_word(text: &[u8], start: usize, end: usize) -> bool
     true
 }
 
-// The number from `start` to `at`, or the word that it is the start of. `number_word`, whose tables need room, stays out of line by being called twice.
+// The number from `start` to `at`, or the word that it is the start of. `number_word`, whose table needs room, stays out of line by being called twice.
 fn read_identifier_starting_with_number(text: &[u8], start: usize, at: usize) -> Lexed
     requires { ⌜ AsciiTo (now text) start at ⌝ }
     ensures { λ r. ⌜ r ≡ endsAt start (closing (at - start) (chars (drop start (now (text .entry))))) ⌝ }
@@ -911,7 +535,7 @@ fn number_word(text: &[u8], start: usize, at: usize) -> Lexed
     requires { ⌜ AsciiTo (now text) start at ⌝ }
     ensures { λ r. ⌜ r ≡ endsAt start (closing (at - start) (chars (drop start (now (text .entry))))) ⌝ }
 {
-    if !goes_on(text, at) {
+    if !starts_suffix(text, at) {
         return Lexed {
             kind: SyntaxKind::Number,
             end: at,
@@ -968,7 +592,7 @@ pub fn read_string(text: &[u8], at: usize, quote: u8, success_type: u32, error_t
 }
 
 // Whether the character at i is the closing quote E2 80 last.
-fn closes(text: &[u8], i: usize, last: u8) -> bool
+fn closes_curly(text: &[u8], i: usize, last: u8) -> bool
     requires { ⌜ (i < length (now text)) × (0x80 ≤ last) × (last ≤ 0xBF) ⌝ }
     ensures { λ r. ⌜ r ≡ eqb (charAt (drop i (now (text .entry))) .code) (curlyClose last) ⌝ }
 {
@@ -995,7 +619,7 @@ fn read_unicode_quoted(
 {
     let mut i = at;
     while i < text.len() {
-        if closes(text, i, last) {
+        if closes_curly(text, i, last) {
             return Lexed {
                 kind: success_type,
                 end: i + 3,
@@ -1007,12 +631,6 @@ fn read_unicode_quoted(
         kind: error_type,
         end: i,
     }
-}
-
-pub fn is_tag_byte(b: u8) -> bool
-    ensures { λ r. ⌜ r ≡ tagByte b ⌝ }
-{
-    is_word_byte(b, false)
 }
 
 // Where the tag bytes from `at` on end.
@@ -1045,23 +663,6 @@ fn matches(text: &[u8], at: usize, delimiter: &[u8]) -> bool
         k += 1;
     }
     true
-}
-
-// The class of one byte.
-fn only(a: u8) -> Class
-    requires { ⌜ a < 0x80 ⌝ }
-    ensures { λ r. ⌜ edges r ≡ a ∷ (a + 1) ∷ 0 ∷ 0 ∷ 0 ∷ 0 ∷ 0 ∷ 0 ∷ [] ⌝ }
-{
-    Class {
-        a,
-        b: a + 1,
-        c: 0,
-        d: 0,
-        e: 0,
-        f: 0,
-        g: 0,
-        h: 0,
-    }
 }
 
 // Where the first delimiter from `at` on ends, or 0. Bytes among which no `$` stands before the delimiter's second byte are gone over by eights.
@@ -1112,51 +713,30 @@ fn read_dollar(text: &[u8], start: usize) -> Lexed
     }
 }
 
-// The bits of a word's bytes: those below 64 by their number, and those from 64 on by their number less 64.
-fn word_mask(b: u8, dollar: bool) -> u64
-    ensures { λ r. ⌜ r ≡ wordMask dollar b ⌝ }
-{
-    if b >= 64 {
-        return 0x07FF_FFFE_87FF_FFFE;
-    }
-    if dollar {
-        return 0x03FF_0010_0000_0000;
-    }
-    0x03FF_0000_0000_0000
-}
-
-// One bit of a mask is a third faster than comparisons on words of mixed case.
-fn is_word_byte(b: u8, dollar: bool) -> bool
-    ensures { λ r. ⌜ r ≡ (ltb b 0x80 && wordWith dollar b) ⌝ }
-{
-    let mask = word_mask(b, dollar);
-    (b < 0x80) & ((mask >> (b % 64)) % 2 == 1)
-}
-
-fn is_word_in(al: &AlphabeticTable, nu: &NumericTable, c: u32, dollar: bool) -> bool
-    requires { ⌜ (now al ≡ alphabeticTable) × (now nu ≡ numericTable) ⌝ }
+fn is_word_in(table: &ClassTable, c: u32, dollar: bool) -> bool
+    requires { ⌜ Held (now table) ⌝ }
     ensures { λ r. ⌜ r ≡ wordWith dollar c ⌝ }
 {
     if c < 0x80 {
         return is_word_byte(c as u8, dollar);
     }
-    classes::is_alphanumeric_in(al, nu, c)
+    classes::is_alphanumeric_in(table, c)
 }
 
 // The bytes of the word character at `at`, or 0 where there is none.
-fn word_len(al: &AlphabeticTable, nu: &NumericTable, text: &[u8], at: usize, dollar: bool) -> usize
-    requires { ⌜ (now al ≡ alphabeticTable) × (now nu ≡ numericTable) ⌝ }
+fn word_len(table: &ClassTable, text: &[u8], at: usize, dollar: bool) -> usize
+    requires { ⌜ Held (now table) ⌝ }
     ensures { λ r. ⌜ Step (wordWith dollar) (now (text .entry)) at r ⌝ }
 {
     let u = unit_at(text, at);
-    if is_word_in(al, nu, unit_code(u), dollar) {
+    if is_word_in(table, unit_code(u), dollar) {
         unit_len(u)
     } else {
         0
     }
 }
 
-// Where it says so, `c` is of Latin past ASCII up to U+02C1, of Cyrillic, Hebrew or Arabic: told by comparisons, so that a word of such
+// True only if `c` is a letter of Latin past ASCII up to U+02C1, of Cyrillic, Hebrew or Arabic. By comparisons, so that a word of such
 // letters makes no table.
 fn is_common_letter(c: u32) -> bool
     ensures { λ r. ⌜ (r ≡ true → (d : Bool) → wordWith d c ≡ true) ⌝ }
@@ -1182,15 +762,14 @@ fn common_len(text: &[u8], at: usize) -> usize
     }
 }
 
-// A word from its first character on that needs a table. The tables are made once, for all that is left.
-fn read_wide_word(text: &[u8], at: usize, dollar: bool) -> usize
+// A word from its first character on that needs the table, which is made once, for all that is left.
+fn read_word_by_table(text: &[u8], at: usize, dollar: bool) -> usize
     ensures { λ r. ⌜ r ≡ at + run (wordWith dollar) (chars (drop at (now (text .entry)))) ⌝ }
 {
-    let al = classes::alphabetic_table();
-    let nu = classes::numeric_table();
+    let table = classes::class_table();
     let mut j = at;
     loop {
-        let n = word_len(&al, &nu, text, j, dollar);
+        let n = word_len(&table, text, j, dollar);
         if n == 0 {
             return j;
         }
@@ -1214,11 +793,11 @@ fn read_word(text: &[u8], at: usize, dollar: bool) -> usize
         }
         let n = common_len(text, j);
         if n == 0 {
-            // Called at two places, it isn't inlined, and its tables stay out of this frame.
+            // Called at two places, it isn't inlined, and its table stays out of this frame.
             if dollar {
-                return read_wide_word(text, j, true);
+                return read_word_by_table(text, j, true);
             }
-            return read_wide_word(text, j, false);
+            return read_word_by_table(text, j, false);
         }
         j += n;
     }

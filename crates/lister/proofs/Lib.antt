@@ -1,4 +1,3 @@
--- Numbers in a list, the list's room, and a text that is read in parts.
-pub mod Numbers
+-- The list's room, and a text that is read in parts.
 pub mod Fits
 pub mod Reading

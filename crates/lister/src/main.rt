@@ -1,33 +1,38 @@
 // Prints the full list of the text on standard input, or why there is none.
+use lexer::token::Token;
 use libc::STDERR_FILENO;
 use libc::STDIN_FILENO;
 use libc::STDOUT_FILENO;
 use lists::listing::Settings;
 use lists::listing::tokenize;
+use lists::packed::get_token;
+use rules::TOKEN_BYTES;
 use rules::answer::Answer;
 use rules::token_bytes;
 ghost use mathlib.Core.Path.{_≡_};
-ghost use Prim.Native.Nat.{_+_, _*_, _≤_, _<_};
-ghost use lib.ListN.{length, take, drop};
+ghost use Prim.Native.Nat.{_*_, _≤_};
+ghost use lib.ListN.{length};
 ghost use Rattle.rules.specs.Limits.{tokenBytes};
-ghost use Rattle.rules.specs.Tokens.{token};
-ghost use Rattle.rules.specs.Listing.{bytesOf32, packToken};
 ghost use Rattle.lister.specs.Input.{countOf};
 
 const MOST_BYTES: usize = 65536;
 
 // One byte more than a text may have, which shows that there is more.
-fn text_space() -> [u8; 65537]
-    ensures { λ r. ⌜ 65537 ≡ length r ⌝ }
-{
-    [0; 65537]
-}
+const TEXT_SPACE: usize = MOST_BYTES + 1;
 
 // Room for a token a byte.
-fn list_space() -> [u8; 786432]
-    ensures { λ r. ⌜ 786432 ≡ length r ⌝ }
+const LIST_SPACE: usize = MOST_BYTES * TOKEN_BYTES;
+
+fn text_space() -> [u8; TEXT_SPACE]
+    ensures { λ r. ⌜ 65537 ≡ length r ⌝ }
 {
-    [0; 786432]
+    [0; TEXT_SPACE]
+}
+
+fn list_space() -> [u8; LIST_SPACE]
+    ensures { λ r. ⌜ 65536 * tokenBytes ≡ length r ⌝ }
+{
+    [0; LIST_SPACE]
 }
 
 enum Input {
@@ -63,40 +68,6 @@ fn read_text(text: &mut [u8]) -> Input
     Input::Bytes(n)
 }
 
-fn wide(x: u8) -> u32
-    ensures { λ r. ⌜ (r ≡ x) × (r < 256) ⌝ }
-{
-    x as u32
-}
-
-// Low byte first.
-fn u32_at(list: &[u8], at: usize) -> u32
-    requires { ⌜ at + 4 ≤ length (now list) ⌝ }
-    ensures { λ r. ⌜ bytesOf32 r ≡ take 4 (drop at (now (list .entry))) ⌝ }
-{
-    let a = wide(list[at]);
-    let b = wide(list[at + 1]);
-    let c = wide(list[at + 2]);
-    let d = wide(list[at + 3]);
-    a + b * 256 + c * 65536 + d * 16777216
-}
-
-struct Token {
-    kind: u32,
-    start: u32,
-    end: u32,
-}
-
-fn token_at(list: &[u8], at: usize) -> Token
-    requires { ⌜ at + tokenBytes ≤ length (now list) ⌝ }
-    ensures { λ r. ⌜ packToken (token (r .kind) (r .start) (r .end)) ≡ take tokenBytes (drop at (now (list .entry))) ⌝ }
-{
-    let kind = u32_at(list, at);
-    let start = u32_at(list, at + 4);
-    let end = u32_at(list, at + 8);
-    Token { kind, start, end }
-}
-
 fn print_number(n: u64, after: u8) {
     io::print_decimal(STDOUT_FILENO, n);
     io::write_all(STDOUT_FILENO, &[after]);
@@ -113,7 +84,7 @@ fn print_tokens(list: &[u8], tokens: usize)
 {
     let mut at = 0;
     for _ in 0..tokens {
-        print_token(token_at(list, at));
+        print_token(get_token(list, at));
         at += token_bytes();
     }
 }

@@ -15,7 +15,7 @@ use Rattle.rules.specs.Listing.{lean, only, leanKeeps, leanUpToKeeps, startsBef
 use Rattle.rules.proofs.Edges.{Tiles, tiles, tiles-le, tiles-count, from-start}
 use Rattle.rules.proofs.Listing.{only-yes, only-no, only-none, only-length, up-to-stop, up-to-step}
 use Rattle.lists.specs.declared.listing.Choice.{Choice}
-use Rattle.lexer.specs.declared.tokenizer.Lexed.{Lexed}
+use Rattle.lexer.specs.declared.token.Lexed.{Lexed}
 use Rattle.lexer.specs.Ends.{endsAt}
 use Rattle.lexer.proofs.Ends.{next-is, next-lies}
 use Rattle.lists.specs.Choices.{keeps, chosen}

@@ -13,7 +13,7 @@ use Rattle.rules.specs.Answers.{filled}
 use Rattle.rules.proofs.Visible.{Fit, Fits, mask-length}
 use Rattle.rules.proofs.Masked.{length-masked, fits-from}
 use Rattle.rules.proofs.Edges.{from-start, from-step, from-end}
-use Rattle.lexer.specs.declared.tokenizer.Lexed.{Lexed}
+use Rattle.lexer.specs.declared.token.Lexed.{Lexed}
 use Rattle.lexer.specs.Ends.{endsAt}
 use Rattle.lexer.proofs.Ends.{next-is, next-lies}
 use Rattle.masking.specs.Spans.{bytesOf, Span}

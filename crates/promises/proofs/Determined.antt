@@ -10,8 +10,11 @@ use Rattle.rules.proofs.Cases.{one-case, one-answer}
 use Rattle.utf8.proofs as utf8
 use Rattle.classes.proofs as classes
 use Rattle.probe.proofs as probe
+use Rattle.lexer.proofs.bytes as bytes
+use Rattle.lexer.proofs.token as token
 use Rattle.lexer.proofs.tokenizer as tokenizer
-use Rattle.lexer.specs.declared.tokenizer.Lexed.{Lexed}
+use Rattle.lexer.specs.declared.token.Lexed.{Lexed}
+use Rattle.steps.proofs as steps
 use Rattle.runs.proofs as runs
 use Rattle.blocks.proofs as blocks
 use Rattle.ahead.proofs as ahead
@@ -83,14 +86,8 @@ is-alphabetic κs a r s u v p q = (same p q, refl)
 pub is-alphanumeric : Determined classes.is_alphanumeric.ended classes.is_alphanumeric.Reads.Learnt
 is-alphanumeric κs a r s u v p q = (same p q, refl)
 
-pub alphabetic-table : Determined classes.alphabetic_table.ended classes.alphabetic_table.Reads.Learnt
-alphabetic-table κs a r s u v p q = (same p q, refl)
-
-pub numeric-table : Determined classes.numeric_table.ended classes.numeric_table.Reads.Learnt
-numeric-table κs a r s u v p q = (same p q, refl)
-
-pub is-alphabetic-in : Determined classes.is_alphabetic_in.ended classes.is_alphabetic_in.Reads.Learnt
-is-alphabetic-in κs a r s u v p q = (same p q, refl)
+pub class-table : Determined classes.class_table.ended classes.class_table.Reads.Learnt
+class-table κs a r s u v p q = (same (p .both) (q .both), refl)
 
 pub is-alphanumeric-in : Determined classes.is_alphanumeric_in.ended classes.is_alphanumeric_in.Reads.Learnt
 is-alphanumeric-in κs a r s u v p q = (same p q, refl)
@@ -116,16 +113,16 @@ probe-is-alphanumeric κs a r s u v p q = (same p q, refl)
 pub next-token : Determined tokenizer.next_token.ended tokenizer.next_token.Reads.Learnt
 next-token κs a r s u v p q = (same p q, refl)
 
-pub is-tag-byte : Determined tokenizer.is_tag_byte.ended tokenizer.is_tag_byte.Reads.Learnt
+pub is-tag-byte : Determined bytes.is_tag_byte.ended bytes.is_tag_byte.Reads.Learnt
 is-tag-byte κs a r s u v p q = (same p q, refl)
 
-pub join : Determined tokenizer.join.ended tokenizer.join.Reads.Learnt
+pub join : Determined token.join.ended token.join.Reads.Learnt
 join κs a r s u v p q = (same p q, refl)
 
-pub kind-of : Determined tokenizer.kind_of.ended tokenizer.kind_of.Reads.Learnt
+pub kind-of : Determined token.kind_of.ended token.kind_of.Reads.Learnt
 kind-of κs a r s u v p q = (same p q, refl)
 
-pub end-of : Determined tokenizer.end_of.ended tokenizer.end_of.Reads.Learnt
+pub end-of : Determined token.end_of.ended token.end_of.Reads.Learnt
 end-of κs a r s u v p q = (same p q, refl)
 
 pub read-string : Determined tokenizer.read_string.ended tokenizer.read_string.Reads.Learnt
@@ -159,7 +156,7 @@ leads κs a r s u v p q = (same p q, refl)
 pub is-long : Determined edges.is_long.ended edges.is_long.Reads.Learnt
 is-long κs a r s u v p q = (same p q, refl)
 
-pub step : Determined tokenizer.step.ended tokenizer.step.Reads.Learnt
+pub step : Determined steps.step.ended steps.step.Reads.Learnt
 step κs a r s u v p q = (same p q, refl)
 
 pub new-settings : Determined listing.Settings.new.ended listing.Settings.new.Reads.Learnt
@@ -200,6 +197,12 @@ answer-in κs a r s u v p q = (one-case r s (same (p .0 .0) (q .0 .0)) (same (p 
 
 pub stored-by : Determined picks.stored_by.ended picks.stored_by.Reads.Learnt
 stored-by κs a r s u v p q = (same p q, refl)
+
+pub get-u32 : Determined packed.get_u32.ended packed.get_u32.Reads.Learnt
+get-u32 κs a r s u v p q = (same p q, refl)
+
+pub get-token : Determined packed.get_token.ended packed.get_token.Reads.Learnt
+get-token κs a r s u v p q = (same p q, refl)
 
 pub put-token : Determined packed.put_token.ended packed.put_token.Reads.Learnt
 put-token κs a r s u v p q = lent (λ l. (l, u .1)) (both p q)

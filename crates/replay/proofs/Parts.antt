@@ -6,12 +6,13 @@ use native.Mathlib.Omega.{arith}
 use lib.ListN.{length, take, drop, length-drop}
 use lib.Seq.{take-all}
 use Rattle.rules.specs.Limits.{tokenBytes}
-use Rattle.replay.specs.Cases.{numberOf32, textOf, afterText, listOf}
+use Rattle.rules.specs.Listing.{numberAt}
+use Rattle.replay.specs.Cases.{textOf, afterText, listOf}
 
 past-four : (k : ℕ) → 4 + k - 4 ≡ k
 past-four k = omega arith
 
-module _ (s : List ℕ) (n : ℕ) (e : n ≡ numberOf32 s) where
+module _ (s : List ℕ) (n : ℕ) (e : n ≡ numberAt s 0) where
   pub text-part : take (4 + n - 4) (drop 4 s) ≡ textOf s
   text-part = ap (λ (k : ℕ). take k (drop 4 s)) (past-four n ∙ e)
 
@@ -20,8 +21,8 @@ module _ (s : List ℕ) (n : ℕ) (e : n ≡ numberOf32 s) where
       take-all (length s - (4 + n)) (drop (4 + n) s) (omega (arith, length-drop (4 + n) s))
       ∙ ap (λ (k : ℕ). drop (4 + k) s) e
 
-  pub list-part : (after : List ℕ) (m : ℕ) → after ≡ afterText s → m ≡ numberOf32 after → take (4 + m * 12 - 4) (drop 4 after) ≡ listOf s
+  pub list-part : (after : List ℕ) (m : ℕ) → after ≡ afterText s → m ≡ numberAt after 0 → take (4 + m * tokenBytes - 4) (drop 4 after) ≡ listOf s
   list-part after m a f =
-      ap (λ (k : ℕ). take k (drop 4 after)) (past-four (m * 12))
+      ap (λ (k : ℕ). take k (drop 4 after)) (past-four (m * tokenBytes))
       ∙ ap (λ (l : List ℕ). take (m * tokenBytes) (drop 4 l)) a
-      ∙ ap (λ (k : ℕ). take (k * tokenBytes) (drop 4 (afterText s))) (f ∙ ap numberOf32 a)
+      ∙ ap (λ (k : ℕ). take (k * tokenBytes) (drop 4 (afterText s))) (f ∙ ap (λ (l : List ℕ). numberAt l 0) a)

@@ -1,13 +1,15 @@
 // One case of the file of answers.
 use lists::listing::Settings;
 use lists::listing::tokenize;
+use lists::packed::get_u32;
+use rules::TOKEN_BYTES;
 ghost use mathlib.Core.Path.{_≡_};
-ghost use Prim.Native.Nat.{_*_, _≤_, _<_};
+ghost use Prim.Native.Nat.{_*_, _≤_};
 ghost use mathlib.Core.Bool.{true, false};
 ghost use lib.ListN.{length, take};
 ghost use Rattle.rules.specs.Limits.{tokenBytes};
 ghost use Rattle.rules.specs.Listing.{full, wholeList, pack};
-ghost use Rattle.replay.specs.Cases.{numberOf32, textOf, listOf};
+ghost use Rattle.replay.specs.Cases.{textOf, listOf};
 
 pub struct Case {
     // In bytes, of the whole case; 0 where the file is cut short.
@@ -27,20 +29,6 @@ fn cut() -> Case
     }
 }
 
-fn wide(b: u8) -> u32
-    ensures { λ r. ⌜ (r ≡ b) × (r < 256) ⌝ }
-{
-    b as u32
-}
-
-// The number that the first four bytes store.
-fn number(s: &[u8]) -> u32
-    requires { ⌜ 4 ≤ length (now s) ⌝ }
-    ensures { λ r. ⌜ r ≡ numberOf32 (now (s .entry)) ⌝ }
-{
-    wide(s[0]) + wide(s[1]) * 256 + wide(s[2]) * 65536 + wide(s[3]) * 16777216
-}
-
 // Whether s has the list at its start.
 fn begins(s: &[u8], list: &[u8]) -> bool
     ensures { λ r. ⌜ (r ≡ true → take (length (now (list .entry))) (now (s .entry)) ≡ now (list .entry)) ⌝ }
@@ -52,12 +40,15 @@ fn begins(s: &[u8], list: &[u8]) -> bool
     check::same(&s[..n], list)
 }
 
-// Whether the library gives the text this list of so many tokens. No text of the file has over 250 bytes, and so not over 250 tokens.
+// No text of the file has over 250 bytes, and so not over 250 tokens.
+const OWN_SPACE: usize = 250 * TOKEN_BYTES;
+
+// Whether the library gives the text this list of so many tokens.
 fn agrees(text: &[u8], tokens: usize, list: &[u8]) -> bool
     requires { ⌜ length (now list) ≡ tokens * tokenBytes ⌝ }
     ensures { λ r. ⌜ (r ≡ true → now (list .entry) ≡ pack (wholeList full (now (text .entry)))) ⌝ }
 {
-    let mut own = [0u8; 3000];
+    let mut own = [0u8; OWN_SPACE];
     let answer = tokenize(Settings::new(), text, &mut own);
     if answer.number() != 0 {
         return false;
@@ -76,7 +67,7 @@ pub fn read_case(rest: &[u8]) -> Case
     if rest.len() < 4 {
         return cut();
     }
-    let text_len = number(rest) as usize;
+    let text_len = get_u32(rest, 0) as usize;
     if rest.len() - 4 < text_len {
         return cut();
     }
@@ -85,11 +76,11 @@ pub fn read_case(rest: &[u8]) -> Case
     if after.len() < 4 {
         return cut();
     }
-    let tokens = number(after) as usize;
-    if (after.len() - 4) / 12 < tokens {
+    let tokens = get_u32(after, 0) as usize;
+    if (after.len() - 4) / TOKEN_BYTES < tokens {
         return cut();
     }
-    let list_end = 4 + tokens * 12;
+    let list_end = 4 + tokens * TOKEN_BYTES;
     Case {
         size: text_end + list_end,
         tokens,

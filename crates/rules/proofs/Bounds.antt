@@ -1,4 +1,4 @@
--- How large an answer's number, kind and value get. Assumes nothing.
+-- Every answer fits what a C function packs it into. Assumes nothing.
 use Prim.Native.Nat.{ℕ, _≤_, _<_}
 use native.Mathlib.Decide.{decLt}
 use native.Mathlib.Omega.{arith}
@@ -9,8 +9,9 @@ use lib.Dec.{ltb, eqb}
 use lib.ListN.{length, drop}
 use borrow.Author.Tests.{ltb-false}
 use Rattle.rules.specs.Utf8.{valid, validLength}
-use Rattle.rules.specs.Kinds.{ErrorMaxQuerySizeExceeded, hidingKind, someKind}
+use Rattle.rules.specs.Kinds.{hidingKind, someKind}
 use Rattle.rules.specs.Limits.{maxQuerySize}
+use Rattle.rules.specs.Widths.{numberEnd, Fits, FitsExtra, FitsHalves}
 use Rattle.rules.specs.Tokens.{Token, tokens, afterDotAt, tokenAt}
 use Rattle.rules.specs.Listing.{lean, only, leanKeeps, leanUpToKeeps, startsBefore, wholeList, listUpTo, room}
 use Rattle.rules.specs.Answers.{Done, TooLong, NotUtf8, OtherLength, NoPart, tooLong, beyond, noPart, noMode, Written, refused, stored, tooLongList, listing, listingUpTo, step, Part, refusedPart, partOf, tokenText, shownText, maskedCopy, Placed, placeAt}
@@ -23,16 +24,12 @@ use Rattle.rules.proofs.KnownKinds.{kind-known}
 use Rattle.rules.proofs.Parts.{or-none, part-inside}
 use Rattle.rules.proofs.Places.{place-most}
 
--- The numbers end with 7, and no value is above the longest text's length.
-abbrev pub Small : ℕ → ℕ → Type 0
-Small number value = (number ≤ OtherLength) × (value ≤ maxQuerySize)
+abbrev FitsW : Written → Type 0
+FitsW w = Fits (w .number) (w .value)
 
-abbrev SmallW : Written → Type 0
-SmallW w = Small (w .number) (w .value)
-
-small-stored : (ts : List Token) (number : ℕ) (list : List ℕ) → number ≤ OtherLength → length ts ≤ maxQuerySize → SmallW (stored ts number list)
+fits-stored : (ts : List Token) (number : ℕ) (list : List ℕ) → number < numberEnd → length ts ≤ maxQuerySize → FitsW (stored ts number list)
 unfolding stored
-small-stored ts number list n l = cond-ind SmallW (ltb (room list) (length ts)) _ _ (λ e. (omega arith, l)) (λ e. (n, l))
+fits-stored ts number list n l = cond-ind FitsW (ltb (room list) (length ts)) _ _ (λ e. (omega arith, omega (arith, l))) (λ e. (n, omega (arith, l)))
 
 all-fit : (s : List ℕ) → length (tokens s) ≤ length s
 all-fit s = omega (arith, tiles-count 0 (tokens s) (length s) (tiles s))
@@ -54,79 +51,79 @@ up-to-fits mode position s = go (eqb mode lean)
     go false = omega (arith, only-length (startsBefore position) (tokens s), all-fit s)
 
 -- what both listings do with a text that has their tokens
-small-rest : (text : List ℕ) (ts : List Token) (list : List ℕ) → length text ≤ maxQuerySize → length ts ≤ length text
-    → SmallW (cond (not (valid text)) (refused NotUtf8 (validLength text) list) (stored ts Done list))
-small-rest text ts list l h =
-    cond-ind SmallW (not (valid text)) _ _ (λ e. (omega arith, omega (arith, valid-most text))) (λ e. small-stored ts Done list (omega arith) (omega arith))
+fits-rest : (text : List ℕ) (ts : List Token) (list : List ℕ) → length text ≤ maxQuerySize → length ts ≤ length text
+    → FitsW (cond (not (valid text)) (refused NotUtf8 (validLength text) list) (stored ts Done list))
+fits-rest text ts list l h =
+    cond-ind FitsW (not (valid text)) _ _ (λ e. (omega arith, omega (arith, valid-most text))) (λ e. fits-stored ts Done list (omega arith) (omega arith))
 
-pub small-listing : (mode : ℕ) (text list : List ℕ) → SmallW (listing mode text list)
+pub fits-listing : (mode : ℕ) (text list : List ℕ) → FitsW (listing mode text list)
 unfolding listing
-small-listing mode text list =
-    cond-ind SmallW (noMode mode) _ _ (λ e. (omega arith, omega arith))
-    (λ e. cond-ind SmallW (tooLong text) _ _ (λ f. small-stored tooLongList TooLong list (omega arith) (omega arith))
-    (λ f. small-rest text (wholeList mode text) list (ltb-false maxQuerySize (length text) f) (whole-fits mode text)))
+fits-listing mode text list =
+    cond-ind FitsW (noMode mode) _ _ (λ e. (omega arith, omega arith))
+    (λ e. cond-ind FitsW (tooLong text) _ _ (λ f. fits-stored tooLongList TooLong list (omega arith) (omega arith))
+    (λ f. fits-rest text (wholeList mode text) list (ltb-false maxQuerySize (length text) f) (whole-fits mode text)))
 
-pub small-listing-up-to : (mode position : ℕ) (text list : List ℕ) → SmallW (listingUpTo mode position text list)
+pub fits-listing-up-to : (mode position : ℕ) (text list : List ℕ) → FitsW (listingUpTo mode position text list)
 unfolding listingUpTo
-small-listing-up-to mode position text list =
-    cond-ind SmallW (noMode mode) _ _ (λ e. (omega arith, omega arith))
-    (λ e. cond-ind SmallW (tooLong text) _ _ (λ f. (omega arith, omega arith))
-    (λ f. small-rest text (listUpTo mode position text) list (ltb-false maxQuerySize (length text) f) (up-to-fits mode position text)))
+fits-listing-up-to mode position text list =
+    cond-ind FitsW (noMode mode) _ _ (λ e. (omega arith, omega arith))
+    (λ e. cond-ind FitsW (tooLong text) _ _ (λ f. (omega arith, omega arith))
+    (λ f. fits-rest text (listUpTo mode position text) list (ltb-false maxQuerySize (length text) f) (up-to-fits mode position text)))
 
-pub small-copy : (text copy : List ℕ) → SmallW (maskedCopy text copy)
+pub fits-copy : (text copy : List ℕ) → FitsW (maskedCopy text copy)
 unfolding maskedCopy
-small-copy text copy =
-    cond-ind SmallW (tooLong text) _ _ (λ e. (omega arith, omega arith))
+fits-copy text copy =
+    cond-ind FitsW (tooLong text) _ _ (λ e. (omega arith, omega arith))
     (λ e. let l = ltb-false maxQuerySize (length text) e in
-    cond-ind SmallW (not (valid text)) _ _ (λ f. (omega arith, omega (arith, valid-most text)))
-    (λ f. cond-ind SmallW (ltb (length copy) (length text)) _ _ (λ g. (omega arith, l)) (λ g. (omega arith, l))))
+    cond-ind FitsW (not (valid text)) _ _ (λ f. (omega arith, omega (arith, valid-most text)))
+    (λ f. cond-ind FitsW (ltb (length copy) (length text)) _ _ (λ g. (omega arith, omega (arith, l))) (λ g. (omega arith, omega (arith, l)))))
 
-abbrev SmallP : Part → Type 0
-SmallP p = Small (p .number) (p .value)
+abbrev FitsP : Part → Type 0
+FitsP p = Fits (p .number) (p .value)
 
-refusal : (number : ℕ) → number ≤ OtherLength → SmallP (refusedPart number)
+refusal : (number : ℕ) → number < numberEnd → FitsP (refusedPart number)
 refusal number n = (n, omega arith)
 
 -- a part of a text or of its copy
-part-small : (text source : List ℕ) (start end : ℕ) → length text ≤ maxQuerySize → noPart text start end ≡ false → SmallP (partOf source start end)
-part-small text source start end l h = let i = part-inside text start end h in (omega arith, omega arith)
+fits-part : (text source : List ℕ) (start end : ℕ) → length text ≤ maxQuerySize → noPart text start end ≡ false → FitsP (partOf source start end)
+fits-part text source start end l h = let i = part-inside text start end h in (omega arith, omega arith)
 
-pub small-token-text : (text : List ℕ) (start end : ℕ) → SmallP (tokenText text start end)
+pub fits-token-text : (text : List ℕ) (start end : ℕ) → FitsP (tokenText text start end)
 unfolding tokenText
-small-token-text text start end =
-    cond-ind SmallP (tooLong text) _ _ (λ e. refusal TooLong (omega arith))
-    (λ e. cond-ind SmallP (noPart text start end) _ _ (λ f. refusal NoPart (omega arith))
-    (λ f. part-small text text start end (ltb-false maxQuerySize (length text) e) f))
+fits-token-text text start end =
+    cond-ind FitsP (tooLong text) _ _ (λ e. refusal TooLong (omega arith))
+    (λ e. cond-ind FitsP (noPart text start end) _ _ (λ f. refusal NoPart (omega arith))
+    (λ f. fits-part text text start end (ltb-false maxQuerySize (length text) e) f))
 
-pub small-shown-text : (text copy : List ℕ) (kind start end : ℕ) → SmallP (shownText text copy kind start end)
+pub fits-shown-text : (text copy : List ℕ) (kind start end : ℕ) → FitsP (shownText text copy kind start end)
 unfolding shownText
-small-shown-text text copy kind start end =
-    cond-ind SmallP (tooLong text) _ _ (λ e. refusal TooLong (omega arith))
-    (λ e. cond-ind SmallP (noPart text start end || not (someKind kind)) _ _ (λ f. refusal NoPart (omega arith))
-    (λ f. cond-ind SmallP (not (eqb (length copy) (length text))) _ _ (λ g. refusal OtherLength (omega arith))
-    (λ g. part-small text (cond (hidingKind kind) copy text) start end (ltb-false maxQuerySize (length text) e) (or-none (noPart text start end) (not (someKind kind)) f .0))))
+fits-shown-text text copy kind start end =
+    cond-ind FitsP (tooLong text) _ _ (λ e. refusal TooLong (omega arith))
+    (λ e. cond-ind FitsP (noPart text start end || not (someKind kind)) _ _ (λ f. refusal NoPart (omega arith))
+    (λ f. cond-ind FitsP (not (eqb (length copy) (length text))) _ _ (λ g. refusal OtherLength (omega arith))
+    (λ g. fits-part text (cond (hidingKind kind) copy text) start end (ltb-false maxQuerySize (length text) e) (or-none (noPart text start end) (not (someKind kind)) f .0))))
 
-abbrev SmallPlaced : Placed → Type 0
-SmallPlaced p = (p .number ≤ OtherLength) × (p .place .line ≤ maxQuerySize) × (p .place .column ≤ maxQuerySize)
+abbrev FitsPlaced : Placed → Type 0
+FitsPlaced p = FitsHalves (p .number) (p .place .line) (p .place .column)
 
-pub small-place : (text : List ℕ) (offset : ℕ) → SmallPlaced (placeAt text offset)
+pub fits-place : (text : List ℕ) (offset : ℕ) → FitsPlaced (placeAt text offset)
 unfolding placeAt
-small-place text offset =
-    cond-ind SmallPlaced (tooLong text) _ _ (λ e. (omega arith, omega arith, omega arith))
-    (λ e. cond-ind SmallPlaced (beyond text offset) _ _ (λ f. (omega arith, omega arith, omega arith))
+fits-place text offset =
+    cond-ind FitsPlaced (tooLong text) _ _ (λ e. (omega arith, omega arith, omega arith))
+    (λ e. cond-ind FitsPlaced (beyond text offset) _ _ (λ f. (omega arith, omega arith, omega arith))
     (λ f.
     let l = ltb-false maxQuerySize (length text) e in
     let m = ltb-false (length text) offset f in
     let p = place-most text offset m in
     (omega arith, omega arith, omega arith)))
 
-pub small-step : (s : List ℕ) (i : ℕ) → Small (step s i .number) (step s i .value) × (step s i .token .kind ≤ ErrorMaxQuerySizeExceeded)
+pub fits-step : (s : List ℕ) (i : ℕ) → FitsExtra (step s i .number) (step s i .token .kind) (step s i .value)
 unfolding tokenAt
-small-step s i = go (decLt maxQuerySize (length s)) (decLt (length s) i)
+fits-step s i = go (decLt maxQuerySize (length s)) (decLt (length s) i)
   where
-    go : Dec (maxQuerySize < length s) → Dec (length s < i) → Small (step s i .number) (step s i .value) × (step s i .token .kind ≤ ErrorMaxQuerySizeExceeded)
-    go (yes h) k = rw (step-too-long s i h) ((omega arith, omega arith), omega arith)
-    go (no h) (yes k) = rw (step-beyond s i (omega arith) k) ((omega arith, omega arith), omega arith)
+    go : Dec (maxQuerySize < length s) → Dec (length s < i) → FitsExtra (step s i .number) (step s i .token .kind) (step s i .value)
+    go (yes h) k = rw (step-too-long s i h) (omega arith, omega arith, omega arith)
+    go (no h) (yes k) = rw (step-beyond s i (omega arith) k) (omega arith, omega arith, omega arith)
     go (no h) (no k) =
         rw (step-done s i (omega arith) (omega arith))
-        ((omega arith, omega (arith, step-ends s i (omega arith))), kind-known (afterDotAt s i) (drop i s))
+        (omega arith, omega (arith, kind-known (afterDotAt s i) (drop i s)), omega (arith, step-ends s i (omega arith)))

@@ -11,7 +11,7 @@ use Rattle.rules.specs.Kinds.{Number, BareWord, Spaceship, ErrorWrongNum
 use Rattle.rules.specs.Lexeme.{Lexeme, is, first, run}
 use Rattle.rules.specs.Operators.{single, pair, spaceship, operator}
 use Rattle.rules.specs.Dollars.{hereDoc, dollarLexeme}
-use Rattle.rules.specs.Numbers.{numberWord, goesOn, allChars, figures, closing, number}
+use Rattle.rules.specs.Numbers.{numberWord, startsSuffix, allChars, figures, closing, number}
 use Rattle.rules.specs.Tokens.{Rule, spaces, dashes, slashStar, numeral, letters, quoted, doubleQuoted, backQuoted, curlyQuoted, curlyDoubleQuoted, dollars, others, rule, read, lexemeOf, lexeme}
 use Rattle.rules.proofs.Tests.{leb-true}
 
@@ -51,7 +51,7 @@ operator-kind c cs = go (spaceship (c .code) (first cs) (first (drop 1 cs))) (pa
 
 closing-kind : (n : ℕ) (cs : List Char) → Known (closing n cs)
 unfolding closing
-closing-kind n cs = go (goesOn (first (drop n cs)))
+closing-kind n cs = go (startsSuffix (first (drop n cs)))
   where
     go : (b : Bool) → Known (elim b [ false ↦ is Number n | true ↦ is (cond (allChars numberWord (take n cs)) BareWord ErrorWrongNumber) (n + run numberWord (drop n cs)) ])
     go false = refl

@@ -41,6 +41,7 @@ pub mod KnownKinds
 pub mod Edges
 pub mod Stepping
 pub mod Listing
+pub mod Unpacking
 pub mod Parts
 pub mod Places
 pub mod Bounds

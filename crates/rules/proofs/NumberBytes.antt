@@ -16,7 +16,7 @@ use Rattle.rules.specs.Utf8.{Char, width, charAt, chars}
 use Rattle.rules.specs.Classes.{digit, hexDigit}
 use Rattle.rules.specs.Characters.{plus, dash, dot, zeroDigit, oneDigit, capitalB, capitalE, capitalP, capitalX, underscore, smallB, smallE, smallP, smallX}
 use Rattle.rules.specs.Lexeme.{first}
-use Rattle.rules.specs.Numbers.{digits, either, prefix, opening, radixDigit, fraction, mantissa, Figures, marks, signs, power, exponent, figures, allChars}
+use Rattle.rules.specs.Numbers.{digits, either, prefix, opening, radixDigit, fraction, mantissa, Figures, exponentMark, signLength, power, exponent, figures, allChars}
 use Rattle.rules.specs.Tokens.{afterDotAt}
 use Rattle.rules.proofs.Decoding.{chars-at, chars-ascii, chars-end, code-high}
 use Rattle.rules.proofs.Bytes.{next-like, next-is, code-like}
@@ -216,35 +216,35 @@ module _ (p : ℕ → Bool) (s : List ℕ) (i : ℕ) where
   pub fraction-at-none : eqb (getD s i 0) dot ≡ false → fraction p 0 (chars (drop i s)) ≡ 0
   fraction-at-none e = fraction-none p 0 (chars (drop i s)) (next-is dot (omega arith) (omega arith) s i ∙ e)
 
-pub signs-most : (c : ℕ) → signs c ≤ 1
-signs-most c = cond-ind (λ (n : ℕ). n ≤ 1) (either plus dash c) 1 0 (λ e. omega arith) (λ e. omega arith)
+pub sign-most : (c : ℕ) → signLength c ≤ 1
+sign-most c = cond-ind (λ (n : ℕ). n ≤ 1) (either plus dash c) 1 0 (λ e. omega arith) (λ e. omega arith)
 
 -- the exponent at a byte
-signs-high : (c : ℕ) → 0x80 ≤ c → either plus dash c ≡ false
-signs-high = either-high plus dash (omega arith) (omega arith)
+sign-high : (c : ℕ) → 0x80 ≤ c → either plus dash c ≡ false
+sign-high = either-high plus dash (omega arith) (omega arith)
 
-marks-high : (hex : Bool) (c : ℕ) → 0x80 ≤ c → marks hex c ≡ false
-marks-high true = either-high smallP capitalP (omega arith) (omega arith)
-marks-high false = either-high smallE capitalE (omega arith) (omega arith)
+mark-high : (hex : Bool) (c : ℕ) → 0x80 ≤ c → exponentMark hex c ≡ false
+mark-high true = either-high smallP capitalP (omega arith) (omega arith)
+mark-high false = either-high smallE capitalE (omega arith) (omega arith)
 
-marks-none : (hex : Bool) → marks hex 0 ≡ false
-marks-none true = refl
-marks-none false = refl
+mark-none : (hex : Bool) → exponentMark hex 0 ≡ false
+mark-none true = refl
+mark-none false = refl
 
 module _ (hex : Bool) (s : List ℕ) (i : ℕ) where
-  pub exponent-at-none : marks hex (getD s i 0) ≡ false → exponent hex (chars (drop i s)) ≡ record { well = true; size = 0 }
-  exponent-at-none e = exponent-none hex (chars (drop i s)) (next-like (marks hex) (marks-high hex) (marks-none hex) s i ∙ e)
+  pub exponent-at-none : exponentMark hex (getD s i 0) ≡ false → exponent hex (chars (drop i s)) ≡ record { well = true; size = 0 }
+  exponent-at-none e = exponent-none hex (chars (drop i s)) (next-like (exponentMark hex) (mark-high hex) (mark-none hex) s i ∙ e)
 
-  module _ (e : marks hex (getD s i 0) ≡ true) where
+  module _ (e : exponentMark hex (getD s i 0) ≡ true) where
     there : (i < length s) × (getD s i 0 < 0x80)
-    there = ascii-test (marks hex) (marks-high hex) (marks-none hex) s i e
+    there = ascii-test (exponentMark hex) (mark-high hex) (mark-none hex) s i e
 
     pub exponent-there : i < length s
     exponent-there = there .0
 
     -- the letter and the sign are ASCII
-    sign-lead : LeadAt s i (suc (signs (getD s (i + 1) 0)))
-    sign-lead = lead-at s (suc (signs (getD s (i + 1) 0))) i (omega (arith, there .0)) (go (either plus dash (getD s (i + 1) 0)) refl)
+    sign-lead : LeadAt s i (suc (signLength (getD s (i + 1) 0)))
+    sign-lead = lead-at s (suc (signLength (getD s (i + 1) 0))) i (omega (arith, there .0)) (go (either plus dash (getD s (i + 1) 0)) refl)
       where
         cs : List Char
         cs = chars (drop (i + 1) s)
@@ -252,19 +252,19 @@ module _ (hex : Bool) (s : List ℕ) (i : ℕ) where
         front-lead : (n : ℕ) → Lead n cs → Lead (suc n) (chars (drop i s))
         front-lead n l = subst (λ (cs : List Char). Lead (suc n) cs) (sym (chars-ascii s i (there .0) (there .1))) (omega (arith, there .1), l)
 
-        go : (b : Bool) → either plus dash (getD s (i + 1) 0) ≡ b → Lead (suc (signs (getD s (i + 1) 0))) (chars (drop i s))
-        go true f = rw f (front-lead 1 (lead-one cs (either-small plus dash (first cs) (omega arith) (omega arith) (next-like (either plus dash) signs-high refl s (i + 1) ∙ f))))
+        go : (b : Bool) → either plus dash (getD s (i + 1) 0) ≡ b → Lead (suc (signLength (getD s (i + 1) 0))) (chars (drop i s))
+        go true f = rw f (front-lead 1 (lead-one cs (either-small plus dash (first cs) (omega arith) (omega arith) (next-like (either plus dash) sign-high refl s (i + 1) ∙ f))))
         go false f = rw f (front-lead 0 tt)
 
-    exponent-there-is : exponent hex (chars (drop i s)) ≡ power (suc (signs (getD s (i + 1) 0))) (chars (drop i s))
+    exponent-there-is : exponent hex (chars (drop i s)) ≡ power (suc (signLength (getD s (i + 1) 0))) (chars (drop i s))
     exponent-there-is =
-        exponent-some hex (chars (drop i s)) (next-like (marks hex) (marks-high hex) (marks-none hex) s i ∙ e)
+        exponent-some hex (chars (drop i s)) (next-like (exponentMark hex) (mark-high hex) (mark-none hex) s i ∙ e)
         ∙ ap (λ (b : Bool). power (suc (cond b 1 0)) (chars (drop i s)))
-        (ap (λ (cs : List Char). either plus dash (first (drop 1 cs))) (chars-ascii s i (there .0) (there .1)) ∙ next-like (either plus dash) signs-high refl s (i + 1))
+        (ap (λ (cs : List Char). either plus dash (first (drop 1 cs))) (chars-ascii s i (there .0) (there .1)) ∙ next-like (either plus dash) sign-high refl s (i + 1))
 
-    module _ (n : ℕ) (en : n ≡ suc (signs (getD s (i + 1) 0))) where
+    module _ (n : ℕ) (en : n ≡ suc (signLength (getD s (i + 1) 0))) where
       digit-there : digit (first (drop n (chars (drop i s)))) ≡ digit (getD s (i + n) 0)
-      digit-there = rw en (ap (λ (cs : List Char). digit (first cs)) (sign-lead .rest) ∙ next-like digit digit-high refl s (i + suc (signs (getD s (i + 1) 0))))
+      digit-there = rw en (ap (λ (cs : List Char). digit (first cs)) (sign-lead .rest) ∙ next-like digit digit-high refl s (i + suc (signLength (getD s (i + 1) 0))))
 
       pub exponent-at-wrong : digit (getD s (i + n) 0) ≡ false → exponent hex (chars (drop i s)) ≡ record { well = false; size = n }
       exponent-at-wrong f = exponent-there-is ∙ ap (λ (m : ℕ). power m (chars (drop i s))) (sym en) ∙ power-wrong n (chars (drop i s)) (digit-there ∙ f)

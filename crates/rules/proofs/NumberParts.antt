@@ -13,7 +13,7 @@ use Rattle.rules.specs.Classes.{digit, hexDigit}
 use Rattle.rules.specs.Characters.{dot, zeroDigit, oneDigit, capitalB, capitalX, underscore, smallB, smallX}
 use Rattle.rules.specs.Limits.{maskByte}
 use Rattle.rules.specs.Lexeme.{first}
-use Rattle.rules.specs.Numbers.{digits, either, Opening, prefix, opening, radixDigit, fraction, mantissa, Figures, marks, signs, power, exponent, figures}
+use Rattle.rules.specs.Numbers.{digits, either, Opening, prefix, opening, radixDigit, fraction, mantissa, Figures, exponentMark, signLength, power, exponent, figures}
 use Rattle.rules.proofs.Masks.{Kept, none, next, kept-first-append, masks-first, kept-second}
 
 -- the clauses of `digits`, by its tests
@@ -184,28 +184,28 @@ power-local n us {vs} {ws} m k = go (digit (first (drop n (us ++ vs)))) refl
     go false e = power-wrong n (us ++ ws) (ap digit same ∙ e) ∙ sym (power-wrong n (us ++ vs) e)
 
 module _ (hex : Bool) (cs : List Char) where
-  pub exponent-none : marks hex (first cs) ≡ false → exponent hex cs ≡ record { well = true; size = 0 }
+  pub exponent-none : exponentMark hex (first cs) ≡ false → exponent hex cs ≡ record { well = true; size = 0 }
   unfolding exponent
   exponent-none e = rw (e, exponent)
 
-  pub exponent-some : marks hex (first cs) ≡ true → exponent hex cs ≡ power (suc (signs (first (drop 1 cs)))) cs
+  pub exponent-some : exponentMark hex (first cs) ≡ true → exponent hex cs ≡ power (suc (signLength (first (drop 1 cs)))) cs
   unfolding exponent
   exponent-some e = rw (e, exponent)
 
 exponent-local : (hex : Bool) (us : List Char) {vs ws : List Char} → Kept vs ws → exponent hex (us ++ vs) .size ≤ length us → exponent hex (us ++ ws) ≡ exponent hex (us ++ vs)
-exponent-local hex us {vs} {ws} m k = go (marks hex (first (us ++ vs))) refl
+exponent-local hex us {vs} {ws} m k = go (exponentMark hex (first (us ++ vs))) refl
   where
     here : first (us ++ ws) ≡ first (us ++ vs)
     here = kept-first-append us m
 
-    go : (b : Bool) → marks hex (first (us ++ vs)) ≡ b → exponent hex (us ++ ws) ≡ exponent hex (us ++ vs)
-    go false e = exponent-none hex (us ++ ws) (ap (marks hex) here ∙ e) ∙ sym (exponent-none hex (us ++ vs) e)
+    go : (b : Bool) → exponentMark hex (first (us ++ vs)) ≡ b → exponent hex (us ++ ws) ≡ exponent hex (us ++ vs)
+    go false e = exponent-none hex (us ++ ws) (ap (exponentMark hex) here ∙ e) ∙ sym (exponent-none hex (us ++ vs) e)
     go true e =
         let z = exponent-some hex (us ++ vs) e in
-        let s : ℕ = signs (first (drop 1 (us ++ vs))) in
+        let s : ℕ = signLength (first (drop 1 (us ++ vs))) in
         let k' : power (suc s) (us ++ vs) .size ≤ length us = rw z at k in
         let least = power-least (suc s) (us ++ vs) in
-        exponent-some hex (us ++ ws) (ap (marks hex) here ∙ e) ∙ ap (λ (x : ℕ). power (suc (signs x)) (us ++ ws)) (first-local us m 1 (omega arith)) ∙ power-local (suc s) us m k' ∙ sym z
+        exponent-some hex (us ++ ws) (ap (exponentMark hex) here ∙ e) ∙ ap (λ (x : ℕ). power (suc (signLength x)) (us ++ ws)) (first-local us m 1 (omega arith)) ∙ power-local (suc s) us m k' ∙ sym z
 
 -- Rule 6
 follows : ℕ → Figures → Figures

@@ -15,7 +15,7 @@ use Rattle.rules.specs.Classes.{digit, hexDigit}
 use Rattle.rules.specs.Characters.{plus, dash, dot, zeroDigit, oneDigit, capitalB, capitalE, capitalP, capitalX, underscore, smallB, smallE, smallP, smallX}
 use Rattle.rules.specs.Kinds.{Number, BareWord, ErrorWrongNumber}
 use Rattle.rules.specs.Lexeme.{first, is, run}
-use Rattle.rules.specs.Numbers.{number, digits, either, Opening, prefix, opening, radixDigit, fraction, mantissa, Figures, marks, signs, power, exponent, figures, numberWord, goesOn, allChars, closing}
+use Rattle.rules.specs.Numbers.{number, digits, either, Opening, prefix, opening, radixDigit, fraction, mantissa, Figures, exponentMark, signLength, power, exponent, figures, numberWord, startsSuffix, allChars, closing}
 use Rattle.rules.specs.Tokens.{rule, numeral, read, lexemeOf}
 use Rattle.rules.proofs.Reading.{widths, Read, widths-append}
 use Rattle.rules.proofs.Proper.{Propers, propers, one-wide}
@@ -120,20 +120,20 @@ lead-power n cs l = go (digit (first (drop n cs))) refl
     go true e = subst (λ (f : Figures). Lead (f .size) cs) (sym (power-well n cs e)) (lead-add n (digits digit false (drop n cs)) cs l (lead-digits digit digit-small false (drop n cs)))
     go false e = subst (λ (f : Figures). Lead (f .size) cs) (sym (power-wrong n cs e)) l
 
-pub marks-small : (hex : Bool) (c : ℕ) → marks hex c ≡ true → c < 128
-marks-small true c e = either-small smallP capitalP c (omega arith) (omega arith) e
-marks-small false c e = either-small smallE capitalE c (omega arith) (omega arith) e
+pub mark-small : (hex : Bool) (c : ℕ) → exponentMark hex c ≡ true → c < 128
+mark-small true c e = either-small smallP capitalP c (omega arith) (omega arith) e
+mark-small false c e = either-small smallE capitalE c (omega arith) (omega arith) e
 
 pub lead-exponent : (hex : Bool) (cs : List Char) → Lead (exponent hex cs .size) cs
-lead-exponent hex cs = go (marks hex (first cs)) (either plus dash (first (drop 1 cs))) refl refl
+lead-exponent hex cs = go (exponentMark hex (first cs)) (either plus dash (first (drop 1 cs))) refl refl
   where
     G : Figures → Type 0
     G f = Lead (f .size) cs
 
-    go : (b s : Bool) → marks hex (first cs) ≡ b → either plus dash (first (drop 1 cs)) ≡ s → Lead (exponent hex cs .size) cs
+    go : (b s : Bool) → exponentMark hex (first cs) ≡ b → either plus dash (first (drop 1 cs)) ≡ s → Lead (exponent hex cs .size) cs
     go false s e es = subst G (sym (exponent-none hex cs e)) tt
-    go true true e es = subst G (sym (exponent-some hex cs e)) (lead-power (suc (signs (first (drop 1 cs)))) cs (rw es (lead-suc 1 cs (marks-small hex (first cs) e) (lead-one (drop 1 cs) (either-small plus dash (first (drop 1 cs)) (omega arith) (omega arith) es)))))
-    go true false e es = subst G (sym (exponent-some hex cs e)) (lead-power (suc (signs (first (drop 1 cs)))) cs (rw es (lead-one cs (marks-small hex (first cs) e))))
+    go true true e es = subst G (sym (exponent-some hex cs e)) (lead-power (suc (signLength (first (drop 1 cs)))) cs (rw es (lead-suc 1 cs (mark-small hex (first cs) e) (lead-one (drop 1 cs) (either-small plus dash (first (drop 1 cs)) (omega arith) (omega arith) es)))))
+    go true false e es = subst G (sym (exponent-some hex cs e)) (lead-power (suc (signLength (first (drop 1 cs)))) cs (rw es (lead-one cs (mark-small hex (first cs) e))))
 
 pub lead-figures : (d : Bool) (cs : List Char) → digit (first cs) ≡ true → Lead (figures d cs .size) cs
 unfolding figures
@@ -173,11 +173,11 @@ module _ (d : Bool) (cs : List Char) where
   number-well e = rw (e, number)
 
 module _ (n : ℕ) (cs : List Char) where
-  pub closing-number : goesOn (first (drop n cs)) ≡ false → closing n cs ≡ is Number n
+  pub closing-number : startsSuffix (first (drop n cs)) ≡ false → closing n cs ≡ is Number n
   unfolding closing
   closing-number e = rw (e, closing)
 
-  pub closing-word : goesOn (first (drop n cs)) ≡ true → closing n cs ≡ is (cond (allChars numberWord (take n cs)) BareWord ErrorWrongNumber) (n + run numberWord (drop n cs))
+  pub closing-word : startsSuffix (first (drop n cs)) ≡ true → closing n cs ≡ is (cond (allChars numberWord (take n cs)) BareWord ErrorWrongNumber) (n + run numberWord (drop n cs))
   unfolding closing
   closing-word e = rw (e, closing)
 
@@ -198,10 +198,10 @@ module _ (d : Bool) (c : Char) (u v : List Char) (e : rule (c .code) (first (u +
   closes : figures d (c ∷ (u ++ v)) .well ≡ true → (ws : List Char) → Kept v ws → lexemeOf d (c ∷ (u ++ ws)) ≡ closing (suc (length u)) (c ∷ (u ++ ws))
   closes w ws k = reads ws k ∙ number-well d (c ∷ (u ++ ws)) (ap (λ (f : Figures). f .well) (same ws k) ∙ w) ∙ ap (λ (m : ℕ). closing m (c ∷ (u ++ ws))) (ap (λ (f : Figures). f .size) (same ws k) ∙ size)
 
-  number-step : figures d (c ∷ (u ++ v)) .well ≡ true → goesOn (first v) ≡ false → Step d (c ∷ (u ++ v))
+  number-step : figures d (c ∷ (u ++ v)) .well ≡ true → startsSuffix (first v) ≡ false → Step d (c ∷ (u ++ v))
   number-step w t =
       plain-step d (c ∷ (u ++ v)) c u v Number (suc (length u)) refl refl (sym W)
-      (λ ws k. closes w ws k ∙ closing-number (suc (length u)) (c ∷ (u ++ ws)) (rw (drop-append-seam u ws) (ap goesOn (kept-first k) ∙ t)))
+      (λ ws k. closes w ws k ∙ closing-number (suc (length u)) (c ∷ (u ++ ws)) (rw (drop-append-seam u ws) (ap startsSuffix (kept-first k) ∙ t)))
 
   word-kind : ℕ
   word-kind = cond (allChars numberWord (c ∷ u)) BareWord ErrorWrongNumber
@@ -210,14 +210,14 @@ module _ (d : Bool) (c : Char) (u v : List Char) (e : rule (c .code) (first (u +
   unfolding word-kind
   word-plain = cond-rule (λ (k : ℕ). plain k ≡ true) (allChars numberWord (c ∷ u)) BareWord ErrorWrongNumber (λ e. refl) refl
 
-  closes-word : figures d (c ∷ (u ++ v)) .well ≡ true → goesOn (first v) ≡ true → (ws : List Char) → Kept v ws → lexemeOf d (c ∷ (u ++ ws)) ≡ is word-kind (suc (length u) + run numberWord ws)
+  closes-word : figures d (c ∷ (u ++ v)) .well ≡ true → startsSuffix (first v) ≡ true → (ws : List Char) → Kept v ws → lexemeOf d (c ∷ (u ++ ws)) ≡ is word-kind (suc (length u) + run numberWord ws)
   unfolding word-kind
   closes-word w t ws k =
       closes w ws k
-      ∙ closing-word (suc (length u)) (c ∷ (u ++ ws)) (rw (drop-append-seam u ws) (ap goesOn (kept-first k) ∙ t))
+      ∙ closing-word (suc (length u)) (c ∷ (u ++ ws)) (rw (drop-append-seam u ws) (ap startsSuffix (kept-first k) ∙ t))
       ∙ rw (drop-append-seam u ws, take-append-seam u ws)
 
-  word-step : figures d (c ∷ (u ++ v)) .well ≡ true → goesOn (first v) ≡ true → Step d (c ∷ (u ++ v))
+  word-step : figures d (c ∷ (u ++ v)) .well ≡ true → startsSuffix (first v) ≡ true → Step d (c ∷ (u ++ v))
   word-step w t =
       let g = ran numberWord v in
       plain-step d (c ∷ (u ++ v)) c (u ++ g .taken) (g .rest) word-kind (suc (length u) + widths (g .taken))
@@ -225,9 +225,9 @@ module _ (d : Bool) (c : Char) (u v : List Char) (e : rule (c .code) (first (u +
       (λ after k. rw append-assoc (closes-word w t (g .taken ++ after) (subst (λ (l : List Char). Kept l (g .taken ++ after)) (sym (g .whole)) (kept-append (g .taken) k)) ∙ ap (λ (m : ℕ). is word-kind (suc (length u) + m)) (ran-size g after k)))
 
   split-step : Step d (c ∷ (u ++ v))
-  split-step = go (figures d (c ∷ (u ++ v)) .well) (goesOn (first v)) refl refl
+  split-step = go (figures d (c ∷ (u ++ v)) .well) (startsSuffix (first v)) refl refl
     where
-      go : (x y : Bool) → figures d (c ∷ (u ++ v)) .well ≡ x → goesOn (first v) ≡ y → Step d (c ∷ (u ++ v))
+      go : (x y : Bool) → figures d (c ∷ (u ++ v)) .well ≡ x → startsSuffix (first v) ≡ y → Step d (c ∷ (u ++ v))
       go false y ex ey = wrong-step ex
       go true false ex ey = number-step ex ey
       go true true ex ey = word-step ex ey

@@ -4,6 +4,7 @@ pub mod Classes
 pub mod Characters
 pub mod Kinds
 pub mod Limits
+pub mod Widths
 pub mod Lexeme
 pub mod Spaces
 pub mod Operators

@@ -1,12 +1,12 @@
 -- Document 01, "What the library offers": the lists, full, lean and up to a position, and how a list is packed.
-use Prim.Native.Nat.{ℕ, _/_, _%_}
+use Prim.Native.Nat.{ℕ, zero, suc, _+_, _*_, _/_, _%_}
 use mathlib.Core.List.{List, [], _∷_, _++_}
 use mathlib.Core.Bool.{Bool, true, false, not, cond, _||_}
-use lib.ListN.{length}
+use lib.ListN.{length, getD, drop}
 use lib.Dec.{ltb, eqb}
 use Rattle.rules.specs.Kinds.{Whitespace, Comment}
 use Rattle.rules.specs.Limits.{tokenBytes}
-use Rattle.rules.specs.Tokens.{Token, tokens}
+use Rattle.rules.specs.Tokens.{Token, token, tokens}
 
 -- "listing mode .. 0 (full) .. 1 (lean)"
 abbrev pub full : ℕ
@@ -57,3 +57,15 @@ pack (t ∷ ts) = packToken t ++ pack ts
 -- "Its room is its length divided by 12, rounded down."
 abbrev pub room : List ℕ → ℕ
 room list = length list / tokenBytes
+
+-- The same read: the number of 32 bits that four bytes from a place on hold, and the token that twelve hold.
+abbrev pub numberAt : List ℕ → ℕ → ℕ
+numberAt list at = getD list at 0 + getD list (at + 1) 0 * 256 + getD list (at + 2) 0 * 65536 + getD list (at + 3) 0 * 16777216
+
+abbrev pub tokenIn : List ℕ → ℕ → Token
+tokenIn list at = token (numberAt list at) (numberAt list (at + 4)) (numberAt list (at + 8))
+
+-- So many tokens from a list's front.
+unfoldable pub unpack : ℕ → List ℕ → List Token
+unpack zero list = []
+unpack (suc n) list = tokenIn list 0 ∷ unpack n (drop tokenBytes list)

@@ -58,13 +58,13 @@ pub record Figures : Type 0 where
   pub size : ℕ
 
 -- 6.6: "only where e/E (p/P in hex) comes next".
-abbrev pub marks : Bool → ℕ → Bool
-marks true c = either smallP capitalP c
-marks false c = either smallE capitalE c
+abbrev pub exponentMark : Bool → ℕ → Bool
+exponentMark true c = either smallP capitalP c
+exponentMark false c = either smallE capitalE c
 
 -- 6.6: "an optional sign".
-abbrev pub signs : ℕ → ℕ
-signs c = cond (either plus dash c) 1 0
+abbrev pub signLength : ℕ → ℕ
+signLength c = cond (either plus dash c) 1 0
 
 -- 6.6: "and decimal digits; no digit there is WrongNumber at once", after a letter and a sign of n bytes.
 unfoldable pub power : ℕ → List Char → Figures
@@ -72,7 +72,7 @@ power n cs = elim (digit (first (drop n cs))) [ true ↦ record { well = true; s
 
 -- 6.6: the exponent after the mantissa, where there is one.
 unfoldable pub exponent : Bool → List Char → Figures
-exponent hex cs = elim (marks hex (first cs)) [ false ↦ record { well = true; size = 0 } | true ↦ power (suc (signs (first (drop 1 cs)))) cs ]
+exponent hex cs = elim (exponentMark hex (first cs)) [ false ↦ record { well = true; size = 0 } | true ↦ power (suc (signLength (first (drop 1 cs)))) cs ]
 
 -- Rule 6, from the digit on that starts the token (6.1); `afterDot`: the byte before is a dot.
 unfoldable pub figures : Bool → List Char → Figures
@@ -88,8 +88,8 @@ abbrev pub numberWord : ℕ → Bool
 numberWord c = alphanumeric c || eqb c underscore || eqb c dollar
 
 -- 7.1: "and the next character is Alphabetic or `_`".
-abbrev pub goesOn : ℕ → Bool
-goesOn c = alphabetic c || eqb c underscore
+abbrev pub startsSuffix : ℕ → Bool
+startsSuffix c = alphabetic c || eqb c underscore
 
 unfoldable pub allChars : (ℕ → Bool) → List Char → Bool
 allChars p [] = true
@@ -98,7 +98,7 @@ allChars p (c ∷ cs) = p (c .code) && allChars p cs
 -- Rule 7, after a number of n characters.
 unfoldable pub closing : ℕ → List Char → Lexeme
 closing n cs =
-    elim (goesOn (first (drop n cs))) [
+    elim (startsSuffix (first (drop n cs))) [
       | false ↦ is Number n
       -- 7.2: "The whole is BareWord if it consists of these only, otherwise WrongNumber."
       | true ↦ is (cond (allChars numberWord (take n cs)) BareWord ErrorWrongNumber) (n + run numberWord (drop n cs))

@@ -4,6 +4,9 @@ pub mod answer;
 ghost use mathlib.Core.Path.{_≡_};
 ghost use Rattle.rules.specs.Limits.{maxQuerySize, tokenBytes, maskByte};
 
+// For the sizes of arrays, which are written without a call.
+pub const TOKEN_BYTES: usize = 12;
+
 pub fn max_query_size() -> usize
     ensures { λ r. ⌜ r ≡ maxQuerySize ⌝ }
 {
@@ -13,7 +16,7 @@ pub fn max_query_size() -> usize
 pub fn token_bytes() -> usize
     ensures { λ r. ⌜ r ≡ tokenBytes ⌝ }
 {
-    12
+    TOKEN_BYTES
 }
 
 pub fn mask_byte() -> u8

@@ -46,7 +46,7 @@ fn is_three(a: u8, b: u8, c: u8) -> bool
     one_more(0x80, 0xBF, b, c)
 }
 
-// The second of four bytes of which the first is F0 or more: where it says so, two tails make them a character.
+// True only if, after a first byte of F0 or more, the second is such that two tails make the four a character.
 fn is_second(a: u8, b: u8) -> bool
     requires { ⌜ 0xF0 ≤ a ⌝ }
     ensures { λ r. ⌜ ((c d : ℕ) → (r && utf8Tail c && utf8Tail d) ≡ utf8Four a b c d) ⌝ }
@@ -169,7 +169,7 @@ pub fn unit_len(u: Unit) -> usize
     }
 }
 
-// Where it says so, the next 8 bytes are ASCII.
+// True only if the next 8 bytes are ASCII.
 fn ascii8(s: &[u8], i: usize) -> bool
     requires { ⌜ i + 8 ≤ length (now s) ⌝ }
     ensures { λ r. ⌜ (r ≡ true → Passes (now (s .entry)) i (i + 8)) ⌝ }

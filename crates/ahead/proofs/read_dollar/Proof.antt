@@ -8,7 +8,7 @@ use denote.Ref.{now}
 use Rattle.rules.specs.Dollars.{dollarLexeme}
 use Rattle.rules.specs.Tokens.{afterDotAt}
 use Rattle.rules.proofs.RuleBytes.{by-dollar}
-use Rattle.lexer.specs.declared.tokenizer.Lexed.{Lexed}
+use Rattle.lexer.specs.declared.token.Lexed.{Lexed}
 use Rattle.lexer.specs.Ends.{joined, Lexes}
 use Rattle.lexer.proofs.Ends.{lexed-is, lexes, sliced-token}
 use Rattle.ahead.proofs.read_dollar.Statement.{statement}

@@ -1,4 +1,4 @@
--- ASCII's part is a law of the tables; past ASCII the table that is made is the one that the search in it asks for.
+-- ASCII's part is a law of the tables; past ASCII the table holds the classes, as the search in it asks.
 -- Assumes nothing.
 use mathlib.Core.Path.{sym}
 use Rattle.rules.proofs.Tables.{ascii-alphabetic}

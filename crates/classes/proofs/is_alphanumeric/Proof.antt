@@ -1,4 +1,4 @@
--- ASCII's part is a law of the tables; past ASCII the tables are the definition's, as the search in them asks.
+-- ASCII's part is a law of the tables; past ASCII the table holds the classes, as the search in it asks.
 -- Assumes nothing.
 use mathlib.Core.Path.{sym}
 use Rattle.rules.proofs.Tables.{ascii-alphanumeric}
@@ -18,7 +18,6 @@ is-alphanumeric-spec =
     (λ c κs. search needs)
     (λ c κs. search needs)
     returns
-    (λ c κs. search needs)
     (λ c κs. search needs)
     (λ c κs. search needs)
     (λ c. search needs))

@@ -7,7 +7,7 @@ use mathlib.Core.Bool.{true}
 use denote.Ref.{now}
 use lib.ListN.{length, getD}
 use lib.Count.{trailingZeros, trailing-le}
-use Rattle.lexer.specs.declared.tokenizer.Lexed.{Lexed}
+use Rattle.lexer.specs.declared.token.Lexed.{Lexed}
 use Rattle.edges.specs.Leads.{lead, told}
 use Rattle.edges.proofs.Tells.{lead-small}
 use Rattle.edges.proofs.Walks.{end-in, token, next}

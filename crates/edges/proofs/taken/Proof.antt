@@ -2,7 +2,7 @@
 use Prim.Native.Nat.{ℕ, _%_}
 use borrow.Author.Needs.{needs}
 use mathlib.Core.Path.{_≡_, ap, ap₂, _∙_}
-use Rattle.lexer.specs.declared.tokenizer.Lexed.{Lexed}
+use Rattle.lexer.specs.declared.token.Lexed.{Lexed}
 use Rattle.lexer.proofs.Ends.{next-lies}
 use Rattle.edges.proofs.taken.Statement.{statement}
 use Rattle.edges.proofs.taken.Tie as tie

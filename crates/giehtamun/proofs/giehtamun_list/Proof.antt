@@ -4,7 +4,7 @@ use mathlib.Core.Path.{_≡_, ap, _∙_}
 use mathlib.Core.List.{List}
 use denote.Ref.{now}
 use Rattle.rules.specs.Answers.{listing}
-use Rattle.rules.proofs.Bounds.{small-listing}
+use Rattle.rules.proofs.Bounds.{fits-listing}
 use Rattle.rules.specs.Cases.{written}
 use Rattle.giehtamun.proofs.Packed.{fits, is-packed}
 use Rattle.giehtamun.proofs.giehtamun_list.Statement.{statement}
@@ -24,7 +24,7 @@ module _ (c : tie.After-tokenize) where
   listed = c .tokenize .ensures ∙ ap (λ (m : ℕ). listing m text list) (c .before .before .set-mode .ensures .0)
 
 pack-answer-requires : tie.Need-pack-answer-requires
-pack-answer-requires c κs = let t = c .before .before in fits (t .tokenize .result) _ _ (listed t) (small-listing (mode t) (text t) (list t))
+pack-answer-requires c κs = let t = c .before .before in fits (t .tokenize .result) _ _ (listed t) (fits-listing (mode t) (text t) (list t))
 
 returns : tie.Need-returns
 returns c = is-packed (c .before .before .before .tokenize .result) _ _ (listed (c .before .before .before)) _ (c .pack-answer .ensures)

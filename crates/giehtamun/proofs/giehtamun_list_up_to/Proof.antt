@@ -4,7 +4,7 @@ use mathlib.Core.Path.{_≡_, ap₂, _∙_}
 use mathlib.Core.List.{List}
 use denote.Ref.{now}
 use Rattle.rules.specs.Answers.{Written, listingUpTo}
-use Rattle.rules.proofs.Bounds.{small-listing-up-to}
+use Rattle.rules.proofs.Bounds.{fits-listing-up-to}
 use Rattle.rules.specs.Cases.{written}
 use Rattle.giehtamun.proofs.Packed.{fits, is-packed}
 use Rattle.giehtamun.proofs.giehtamun_list_up_to.Statement.{statement}
@@ -33,7 +33,7 @@ module _ (c : tie.After-tokenize-up-to-position) where
 pack-answer-requires : tie.Need-pack-answer-requires
 pack-answer-requires c κs =
     let t = c .before .before in
-    fits (t .tokenize-up-to-position .result) _ _ (listed t) (small-listing-up-to (mode t) (position t) (text t) (list t))
+    fits (t .tokenize-up-to-position .result) _ _ (listed t) (fits-listing-up-to (mode t) (position t) (text t) (list t))
 
 returns : tie.Need-returns
 returns c = is-packed (c .before .before .before .tokenize-up-to-position .result) _ _ (listed (c .before .before .before)) _ (c .pack-answer .ensures)

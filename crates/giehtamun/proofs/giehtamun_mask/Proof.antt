@@ -1,6 +1,6 @@
 use borrow.Author.Needs.{needs}
 use denote.Ref.{now}
-use Rattle.rules.proofs.Bounds.{small-copy}
+use Rattle.rules.proofs.Bounds.{fits-copy}
 use Rattle.giehtamun.proofs.Packed.{fits, is-packed}
 use Rattle.giehtamun.proofs.giehtamun_mask.Statement.{statement}
 use Rattle.giehtamun.proofs.giehtamun_mask.Tie as tie
@@ -9,7 +9,7 @@ pack-answer-requires : tie.Need-pack-answer-requires
 pack-answer-requires c κs =
     let m = c .before .before in
     let a = m .before .before .before .before .args in
-    fits (m .mask .result) _ _ (m .mask .ensures) (small-copy (now (a .text)) (now (a .copy)))
+    fits (m .mask .result) _ _ (m .mask .ensures) (fits-copy (now (a .text)) (now (a .copy)))
 
 returns : tie.Need-returns
 returns c = let m = c .before .before .before in is-packed (m .mask .result) _ _ (m .mask .ensures) _ (c .pack-answer .ensures)

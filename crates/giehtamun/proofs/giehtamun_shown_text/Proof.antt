@@ -1,7 +1,7 @@
 use borrow.Author.Needs.{needs}
 use denote.Ref.{now}
 use Rattle.rules.specs.Answers.{shownText}
-use Rattle.rules.proofs.Bounds.{small-shown-text}
+use Rattle.rules.proofs.Bounds.{fits-shown-text}
 use Rattle.giehtamun.proofs.Packed.{part-fits, part-is-packed}
 use Rattle.giehtamun.proofs.giehtamun_shown_text.Statement.{statement}
 use Rattle.giehtamun.proofs.giehtamun_shown_text.Tie as tie
@@ -9,7 +9,7 @@ use Rattle.giehtamun.proofs.giehtamun_shown_text.Tie as tie
 pack-answer-requires : tie.Need-pack-answer-requires
 pack-answer-requires c κs =
     let a = c .before .before .before .args in
-    part-fits (c .shown-text-answer .result) (shownText (now (a .text)) (now (a .copy)) (a .kind) (a .start) (a .end)) (c .shown-text-answer .ensures) (small-shown-text (now (a .text)) (now (a .copy)) (a .kind) (a .start) (a .end))
+    part-fits (c .shown-text-answer .result) (shownText (now (a .text)) (now (a .copy)) (a .kind) (a .start) (a .end)) (c .shown-text-answer .ensures) (fits-shown-text (now (a .text)) (now (a .copy)) (a .kind) (a .start) (a .end))
 
 returns : tie.Need-returns
 returns c =

@@ -1,7 +1,7 @@
 use borrow.Author.Needs.{needs}
 use denote.Ref.{now}
 use Rattle.rules.specs.Answers.{tokenText}
-use Rattle.rules.proofs.Bounds.{small-token-text}
+use Rattle.rules.proofs.Bounds.{fits-token-text}
 use Rattle.giehtamun.proofs.Packed.{part-fits, part-is-packed}
 use Rattle.giehtamun.proofs.giehtamun_token_text.Statement.{statement}
 use Rattle.giehtamun.proofs.giehtamun_token_text.Tie as tie
@@ -9,7 +9,7 @@ use Rattle.giehtamun.proofs.giehtamun_token_text.Tie as tie
 pack-answer-requires : tie.Need-pack-answer-requires
 pack-answer-requires c κs =
     let a = c .before .before .args in
-    part-fits (c .token-text-answer .result) (tokenText (now (a .text)) (a .start) (a .end)) (c .token-text-answer .ensures) (small-token-text (now (a .text)) (a .start) (a .end))
+    part-fits (c .token-text-answer .result) (tokenText (now (a .text)) (a .start) (a .end)) (c .token-text-answer .ensures) (fits-token-text (now (a .text)) (a .start) (a .end))
 
 returns : tie.Need-returns
 returns c =

@@ -16,8 +16,8 @@ abbrev μ-loop : tie.MeasureT-loop
 loop-holds : tie.Need-loop-holds Inv-loop μ-loop
 loop-holds c = (omega arith, omega arith)
 
-token-at-requires : tie.Need-token-at-requires Inv-loop μ-loop
-token-at-requires c κs = omega arith
+get-token-requires : tie.Need-get-token-requires Inv-loop μ-loop
+get-token-requires c κs = omega arith
 
 print-token-requires : tie.Need-print-token-requires Inv-loop μ-loop
 print-token-requires c κs = search needs
@@ -41,4 +41,4 @@ returns : tie.Need-returns Inv-loop μ-loop
 returns c = search needs
 
 pub print-tokens-spec : {M : Type 1} → statement M
-print-tokens-spec = tie.close (tie.spec Inv-loop μ-loop loop-holds token-at-requires print-token-requires token-bytes-requires add-at add-counter loop-less loop-again returns)
+print-tokens-spec = tie.close (tie.spec Inv-loop μ-loop loop-holds get-token-requires print-token-requires token-bytes-requires add-at add-counter loop-less loop-again returns)

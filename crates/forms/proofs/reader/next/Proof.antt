@@ -42,18 +42,18 @@ use denote.Triple.Table.{entered, cited}
 use denote.Triple.Walked.{says, Stays, stay-none, walkOf, goes-none, Walks, ends-at, walked, walk-meets}
 use denote.Exit.{yes}
 use denote.Triple.Clauses.{ensured, lasts}
-use Rattle.lexer.specs.Ends.{stepped}
+use Rattle.steps.specs.Stepped.{stepped}
 use Rattle.rules.specs.Answers.{step as stepOf}
 use Rattle.forms.specs.declared.reader.Reader.{Reader}
-use Rattle.lexer.specs.declared.tokenizer.Stepped.{Stepped}
+use Rattle.steps.specs.declared.Stepped.{Stepped}
 use Rattle.forms.proofs.reader.Reader as T
 use Rattle.forms.proofs.reader.Reader.Laws as T′
-use Rattle.lexer.proofs.tokenizer.Stepped as S
-use Rattle.lexer.proofs.tokenizer.Stepped.Laws as S′
-use Rattle.lexer.proofs.tokenizer.step as step
-use Rattle.lexer.proofs.tokenizer.step.Symbol as step-def
-use Rattle.lexer.proofs.tokenizer.step.Symbol.{name as #step}
-use Rattle.lexer.proofs.tokenizer.step.Met as step-thm
+use Rattle.steps.proofs.Stepped as S
+use Rattle.steps.proofs.Stepped.Laws as S′
+use Rattle.steps.proofs.step as step
+use Rattle.steps.proofs.step.Symbol as step-def
+use Rattle.steps.proofs.step.Symbol.{name as #step}
+use Rattle.steps.proofs.step.Met as step-thm
 use Rattle.forms.proofs.reader.next.Key.{name as #next}
 use Rattle.forms.proofs.reader.next as next
 use Rattle.forms.proofs.reader.next.Statement as stated
@@ -163,4 +163,4 @@ next-spec 𝓤 H 𝓜 𝓖 𝓡 =
     entered 𝓤 H (tripleOf 𝓤 H (𝓖 .A) next.signature (next.spec 𝓤 H (𝓖 .A) (𝓜 .mem) (𝓡 .run)))
     (tables 𝓤 H 𝓜 𝓡 code.env .C) (tables 𝓤 H 𝓜 𝓡 code.env .Λ) #next code.function (code.unfolded 𝓤 H 𝓜 𝓡)
     (next-meets 𝓤 H (𝓖 .A) (givenOf 𝓤 H 𝓜 𝓖) (𝓜 .mem) (𝓡 .run) (tablesOf 𝓤 H 𝓜 (tables 𝓤 H 𝓜 𝓡 code.env))
-    (cited 𝓤 H (StepAt 𝓤 H (𝓖 .A) (𝓜 .mem) (𝓡 .run)) 𝓜 𝓡 code.env #step step-def.routine code.calls-lexer·tokenizer·step (step-thm.met 𝓤 H 𝓜 𝓖 𝓡)))
+    (cited 𝓤 H (StepAt 𝓤 H (𝓖 .A) (𝓜 .mem) (𝓡 .run)) 𝓜 𝓡 code.env #step step-def.routine code.calls-steps·step (step-thm.met 𝓤 H 𝓜 𝓖 𝓡)))

@@ -57,13 +57,13 @@ use Rattle.rules.specs.Answers.{step}
 use Rattle.rules.specs.Records.{stepsPlan, outcome}
 use Rattle.rules.specs.declared.answer.Answer.{Answer}
 use Rattle.rules.proofs.answer.Answer as E
-use Rattle.lexer.specs.Ends.{stepped}
+use Rattle.steps.specs.Stepped.{stepped}
 use Rattle.lexer.specs.declared.token.Token.{Token}
-use Rattle.lexer.specs.declared.tokenizer.Stepped.{Stepped}
+use Rattle.steps.specs.declared.Stepped.{Stepped}
 use Rattle.lexer.proofs.token.Token as T
 use Rattle.lexer.proofs.token.Token.Laws as T′
-use Rattle.lexer.proofs.tokenizer.Stepped as S
-use Rattle.lexer.proofs.tokenizer.Stepped.Laws as S′
+use Rattle.steps.proofs.Stepped as S
+use Rattle.steps.proofs.Stepped.Laws as S′
 use Rattle.lists.specs.Plans.{storedBy}
 use Rattle.lists.specs.Picks.{Answered}
 use Rattle.lists.proofs.picks.stored_by as stored-by

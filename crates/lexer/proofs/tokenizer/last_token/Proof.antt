@@ -8,8 +8,8 @@ use denote.Ref.{now}
 use lib.ListN.{length, getD}
 use Rattle.rules.specs.Kinds.{BareWord}
 use Rattle.lexer.specs.Ends.{joined}
-use Rattle.lexer.specs.Leads.{leadKind}
-use Rattle.lexer.proofs.Leads.{lead-number}
+use Rattle.lexer.specs.FirstBytes.{firstByteKind}
+use Rattle.lexer.proofs.FirstByteKinds.{lead-number}
 use Rattle.lexer.proofs.FirstBytes.{beyond, as-word, as-space, as-number, as-single, as-longer}
 use Rattle.lexer.proofs.tokenizer.last_token.Statement.{statement}
 use Rattle.lexer.proofs.tokenizer.last_token.Tie as tie
@@ -24,7 +24,7 @@ module _ (f : tie.After-first-byte-kind) where
   abbrev i : ℕ
   i = st .args .start
 
-  kind : f .first-byte-kind .result ≡ leadKind (getD s i 0)
+  kind : f .first-byte-kind .result ≡ firstByteKind (getD s i 0)
   kind = f .first-byte-kind .ensures
 
 returns : tie.Need-returns
@@ -37,7 +37,7 @@ returns-3 : tie.Need-returns-3
 returns-3 c = let f = c .before .before .before .before in c .number-token .ensures ∙ ap joined (as-number (s f) (i f) (st f .pre) (sym (kind f) ∙ c .before .if3 .taken))
 
 -- past the tests for no kind, a word, white space and a number
-other : (c : tie.Else4) → let f = c .before .before .before .before in BareWord < leadKind (getD (s f) (i f) 0)
+other : (c : tie.Else4) → let f = c .before .before .before .before in BareWord < firstByteKind (getD (s f) (i f) 0)
 other c =
     let f = c .before .before .before .before in
     beyond (getD (s f) (i f) 0) (λ e. c .if4 .left (kind f ∙ e)) (λ e. c .before .before .if2 .left (kind f ∙ e)) (λ e. c .before .if3 .left (kind f ∙ e)) (λ e. c .before .before .before .if1 .left (kind f ∙ e))

@@ -17,9 +17,9 @@ use Rattle.rules.specs.Words.{wordCharacter}
 use Rattle.rules.specs.Tokens.{lexeme, afterDotAt}
 use Rattle.rules.proofs.RuleBytes.{at-end}
 use Rattle.lexer.specs.Ends.{endsAt, joined, Unruled}
-use Rattle.lexer.specs.Leads.{leadKind, Operates}
+use Rattle.lexer.specs.FirstBytes.{firstByteKind, Operates}
 use Rattle.lexer.proofs.Ends.{lexed-is, next-lies, sliced, sliced-token}
-use Rattle.lexer.proofs.Leads.{lead-space, lead-number}
+use Rattle.lexer.proofs.FirstByteKinds.{lead-space, lead-number}
 use Rattle.lexer.proofs.FirstBytes.{beyond, as-word, as-space, as-number, as-single, as-longer}
 use Rattle.lexer.proofs.tokenizer.next_token.Statement.{statement}
 use Rattle.lexer.proofs.tokenizer.next_token.Tie as tie
@@ -49,7 +49,7 @@ module _ (f : tie.After-first-byte-kind) where
   inside : i < length s
   inside = omega (arith, room)
 
-  kind : f .first-byte-kind .result ≡ leadKind a
+  kind : f .first-byte-kind .result ≡ firstByteKind a
   kind = f .first-byte-kind .ensures
 
   -- what holds of the text holds of the slice
@@ -98,7 +98,7 @@ returns-8 : tie.Need-returns-8
 returns-8 c = let f = c .before .before .before .before .before .before .before .before .before in c .other-token .ensures ∙ ap joined (sliced-token (i f) (s f))
 
 -- past the tests for no kind, a word, white space and a number
-other : (c : tie.Else7) → let f = c .before .before .before .before in BareWord < leadKind (a f)
+other : (c : tie.Else7) → let f = c .before .before .before .before in BareWord < firstByteKind (a f)
 other c = let f = c .before .before .before .before in beyond (a f) (λ e. c .if7 .left (kind f ∙ e)) (λ e. c .before .before .if4 .left (kind f ∙ e)) (λ e. c .before .if6 .left (kind f ∙ e)) (λ e. c .before .before .before .if3 .left (kind f ∙ e))
 
 returns-9 : tie.Need-returns-9
@@ -173,7 +173,7 @@ next-token-spec =
     (λ c. search needs)
     (λ c. search needs)
     (λ c. search needs)
-    (λ c κs. let f = c .before .before .before .before .before .before .before .before in whole f (λ (t : List ℕ). (i f < length t) × (leadKind (getD t (i f) 0) ≡ NoToken)) (inside f, sym (kind f) ∙ c .before .before .before .before .if7 .taken))
+    (λ c κs. let f = c .before .before .before .before .before .before .before .before in whole f (λ (t : List ℕ). (i f < length t) × (firstByteKind (getD t (i f) 0) ≡ NoToken)) (inside f, sym (kind f) ∙ c .before .before .before .before .if7 .taken))
     returns-8
     (λ c. search needs)
     (λ c κs. search needs)

@@ -3,7 +3,7 @@ use borrow.Author.Needs.{needs}
 use mathlib.Core.Path.{refl, sym, _∙_}
 use denote.Ref.{now}
 use Rattle.lexer.proofs.Numbers.{stops}
-use Rattle.lexer.proofs.ShortNumbers.{no-more}
+use Rattle.lexer.proofs.FastNumbers.{no-more}
 use Rattle.lexer.proofs.tokenizer.read_identifier_starting_with_number.Statement.{statement}
 use Rattle.lexer.proofs.tokenizer.read_identifier_starting_with_number.Tie as tie
 

@@ -14,7 +14,7 @@ use Rattle.rules.specs.Tokens.{afterDotAt}
 use Rattle.rules.proofs.Decoding.{chars-ascii}
 use Rattle.rules.proofs.RuleBytes.{by-dashes, by-slash, by-others}
 use Rattle.lexer.specs.Ends.{endsAt, operatorAt}
-use Rattle.lexer.specs.Leads.{bodies}
+use Rattle.lexer.specs.FirstBytes.{bodies}
 use Rattle.lexer.proofs.Ends.{lexed-is, opened-by}
 use Rattle.lexer.proofs.Matches.{not-among}
 use Rattle.lexer.proofs.tokenizer.read_longer.Statement.{statement}

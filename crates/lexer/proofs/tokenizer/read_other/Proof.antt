@@ -16,7 +16,7 @@ use Rattle.rules.specs.Tokens.{afterDotAt}
 use Rattle.rules.proofs.RuleBytes.{by-quote, by-doubleQuote, by-backQuote, by-dollar}
 use Rattle.lexer.specs.Ends.{endsAt}
 use Rattle.lexer.proofs.Ends.{opened-by}
-use Rattle.lexer.proofs.Leads.{lead-none}
+use Rattle.lexer.proofs.FirstByteKinds.{lead-none}
 use Rattle.lexer.proofs.Matches.{missed-all}
 use Rattle.lexer.proofs.tokenizer.read_other.Statement.{statement}
 use Rattle.lexer.proofs.tokenizer.read_other.Tie as tie

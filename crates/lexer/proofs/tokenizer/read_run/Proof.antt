@@ -32,7 +32,7 @@ returns c =
     omega (
       arith,
       l .loop .inv,
-      byte-stop (radixDigit (a .hex)) (radix-high (a .hex)) (radix-none (a .hex)) s (l .loop .after) (l .loop .j) (omega arith) (sym (r .ensures) ∙ not-true (r .result) (c .before .before .if1 .taken)) (sym (c .before .joins .ensures) ∙ not-true _ (c .if2 .taken)),
+      byte-stop (radixDigit (a .hex)) (radix-high (a .hex)) (radix-none (a .hex)) s (l .loop .after) (l .loop .j) (omega arith) (sym (r .ensures) ∙ not-true (r .result) (c .before .before .if1 .taken)) (sym (c .before .is-separator .ensures) ∙ not-true _ (c .if2 .taken)),
     )
 
 loop-again : tie.Need-loop-again Inv-loop μ-loop

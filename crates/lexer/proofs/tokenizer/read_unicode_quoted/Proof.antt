@@ -36,7 +36,7 @@ closed : (c : tie.Then1 Inv-loop μ-loop) →
 closed c =
     let l = c .before .before .before in
     let g = l .before .before in
-    upTo-shut (now (g .args .text)) (l .loop .i) (g .args .last) (g .pre) (sym (c .before .closes .ensures) ∙ c .if1 .taken)
+    upTo-shut (now (g .args .text)) (l .loop .i) (g .args .last) (g .pre) (sym (c .before .closes-curly .ensures) ∙ c .if1 .taken)
 
 returns : tie.Need-returns Inv-loop μ-loop
 returns c = at-loop (c .before .before .before) .shuts 3 (closed c .0)
@@ -45,7 +45,7 @@ loop-again : tie.Need-loop-again Inv-loop μ-loop
 loop-again c =
     let l = c .before .before .before in
     let a = l .before .before .args in
-    at-loop l .goes 1 (upTo-pass (curlyClose (a .last)) (omega arith) (now (a .text)) (l .loop .i) (c .before .before .loop-test .taken) (sym (c .before .closes .ensures) ∙ c .if1 .left))
+    at-loop l .goes 1 (upTo-pass (curlyClose (a .last)) (omega arith) (now (a .text)) (l .loop .i) (c .before .before .loop-test .taken) (sym (c .before .closes-curly .ensures) ∙ c .if1 .left))
 
 returns-2 : tie.Need-returns-2 Inv-loop μ-loop
 returns-2 c = at-loop (c .before) .ends (upTo-empty (curlyClose (c .before .before .before .args .last))) (c .loop-test .left)

@@ -41,10 +41,10 @@ slower l d e f =
     f ∙ ap (λ (d : Bool). l .loop .j + run (wordWith d) (chars (drop (l .loop .j) s))) (sym e) ∙ l .loop .inv
 
 returns-2 : tie.Need-returns-2 Inv-loop μ-loop
-returns-2 c = slower (c .before .before .before .before .before .before .before .before .before) true (c .before .if4 .taken) (c .read-wide-word .ensures)
+returns-2 c = slower (c .before .before .before .before .before .before .before .before .before) true (c .before .if4 .taken) (c .read-word-by-table .ensures)
 
 returns-3 : tie.Need-returns-3 Inv-loop μ-loop
-returns-3 c = slower (c .before .before .before .before .before .before .before .before .before) false (c .before .if4 .left) (c .read-wide-word2 .ensures)
+returns-3 c = slower (c .before .before .before .before .before .before .before .before .before) false (c .before .if4 .left) (c .read-word-by-table2 .ensures)
 
 add-j-2 : tie.Need-add-j-2 Inv-loop μ-loop
 add-j-2 c = omega (arith, c .before .common-len .ensures (c .if3 .left) true .goes (c .if3 .left))

@@ -10,7 +10,7 @@ use native.Mathlib.Omega.{arith}
 use borrow.Author.Needs.{needs}
 use Rattle.rules.specs.Limits.{tokenBytes}
 use Rattle.rules.specs.Tokens.{token}
-use Rattle.lexer.specs.declared.tokenizer.Lexed.{Lexed}
+use Rattle.lexer.specs.declared.token.Lexed.{Lexed}
 use Rattle.ahead.proofs.Bits.{marked-later}
 use Rattle.edges.specs.declared.Next.{Next}
 use Rattle.edges.specs.Left.{Left, Taken, Spared, Goes}

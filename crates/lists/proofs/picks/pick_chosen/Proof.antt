@@ -8,7 +8,7 @@ use lib.ListN.{length, drop}
 use native.Mathlib.Omega.{arith}
 use borrow.Author.Needs.{needs}
 use Rattle.rules.specs.Tokens.{Token, lexeme, afterDotAt}
-use Rattle.lexer.specs.declared.tokenizer.Lexed.{Lexed}
+use Rattle.lexer.specs.declared.token.Lexed.{Lexed}
 use Rattle.lexer.specs.Ends.{endsAt, joined}
 use Rattle.lexer.proofs.Ends.{next-lies, split, sliced-token}
 use Rattle.lists.specs.Choices.{chosen}

@@ -8,7 +8,7 @@ use mathlib.Core.Logic.{⊎-elim}
 use denote.Ref.{now}
 use lib.ListN.{length}
 use borrow.Author.Needs.{needs}
-use Rattle.lexer.specs.declared.tokenizer.Lexed.{Lexed}
+use Rattle.lexer.specs.declared.token.Lexed.{Lexed}
 use Rattle.ahead.proofs.Bits.{marked-later}
 use Rattle.edges.specs.declared.Next.{Next}
 use Rattle.edges.specs.Left.{Left, Taken, Spared, Goes}

@@ -28,11 +28,11 @@ returns-5 c =
     let m = c .before .before .before .before in
     let n = m .before .before .before .before in
     let s = now (n .before .before .before .args .rest) in
-    let i = n .number .ensures in (
+    let i = n .get-u32 .ensures in (
       (omega arith, omega arith),
-      λ e. sym (list-part s (n .number .result) i _ (m .number2 .result) (after-part s (n .number .result) i) (m .number2 .ensures))
+      λ e. sym (list-part s (n .get-u32 .result) i _ (m .get-u322 .result) (after-part s (n .get-u32 .result) i) (m .get-u322 .ensures))
           ∙ c .agrees .ensures e
-          ∙ ap (λ (t : List ℕ). pack (wholeList full t)) (text-part s (n .number .result) i),
+          ∙ ap (λ (t : List ℕ). pack (wholeList full t)) (text-part s (n .get-u32 .result) i),
     )
 
 pub read-case-spec : {M : Type 1} → statement M
