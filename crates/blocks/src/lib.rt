@@ -1,5 +1,4 @@
 // The edges between runs of bytes, of 64 bytes at once, as the bits of a number.
-use runs::Class;
 use runs::eight;
 use runs::others;
 ghost use mathlib.Core.Path.{_≡_};
@@ -15,16 +14,7 @@ fn no_words(text: &[u8], at: usize) -> u64
     requires { ⌜ at + 8 ≤ length (now text) ⌝ }
     ensures { λ r. ⌜ r ≡ othersOf 8 wordEdges (packed 8 (now (text .entry)) at) ⌝ }
 {
-    let k = Class {
-        a: b'0',
-        b: b':',
-        c: b'A',
-        d: b'[',
-        e: b'_',
-        f: b'`',
-        g: b'a',
-        h: b'{',
-    };
+    let k = [b'0', b':', b'A', b'[', b'_', b'`', b'a', b'{'];
     others(eight(text, at), k)
 }
 
@@ -33,16 +23,7 @@ fn no_figures(text: &[u8], at: usize) -> u64
     requires { ⌜ at + 8 ≤ length (now text) ⌝ }
     ensures { λ r. ⌜ r ≡ othersOf 8 figureEdges (packed 8 (now (text .entry)) at) ⌝ }
 {
-    let k = Class {
-        a: b'\t',
-        b: 14,
-        c: b' ',
-        d: b'!',
-        e: b'0',
-        f: b':',
-        g: 0,
-        h: 0,
-    };
+    let k = [b'\t', 14, b' ', b'!', b'0', b':', 0, 0];
     others(eight(text, at), k)
 }
 

@@ -13,7 +13,7 @@ use Rattle.rules.specs.Dollars.{tagByte}
 use Rattle.rules.proofs.Tests.{eqb-true}
 use Rattle.rules.proofs.Tables.{agree-at}
 use Rattle.rules.proofs.NumberBytes.{radix-high}
-use Rattle.runs.specs.Classes.{Ascii, past, inside, passes}
+use Rattle.runs.specs.Classes.{Edges, past, inside, passes}
 use Rattle.lexer.specs.Words.{asciiWord}
 use Rattle.lexer.proofs.Classes.{ascii-agree, ascii-tag}
 
@@ -86,8 +86,8 @@ module _ (a : ℕ) (la : a < 0x80) (x : ℕ) where
 abbrev pub one : ℕ → List ℕ
 one a = a ∷ (a + 1) ∷ 0 ∷ 0 ∷ 0 ∷ 0 ∷ 0 ∷ 0 ∷ []
 
-pub ascii-one : (a : ℕ) → a < 0x80 → Ascii (one a)
-ascii-one a h = (omega arith, (omega arith, (omega arith, (omega arith, (omega arith, (omega arith, (omega arith, (omega arith, tt))))))))
+pub edges-one : (a : ℕ) → a < 0x80 → Edges (one a)
+edges-one a h = (refl, (omega arith, (omega arith, (omega arith, (omega arith, (omega arith, (omega arith, (omega arith, (omega arith, tt)))))))))
 
 pub inside-one : (a : ℕ) → a < 0x80 → (x : ℕ) → inside (one a) x ≡ eqb x a
 inside-one a h x = sym (Bool·not-not (inside (one a) x)) ∙ ap not (outside-one a h x) ∙ Bool·not-not (eqb x a)

@@ -12,7 +12,7 @@ ghost use Rattle.rules.specs.Classes.{whiteSpace, digit, hexDigit};
 ghost use Rattle.rules.specs.Characters.{dollar};
 ghost use Rattle.rules.specs.Lexeme.{two};
 ghost use Rattle.rules.specs.Operators.{pair, spaceship};
-ghost use Rattle.runs.specs.Classes.{edges, Skips};
+ghost use Rattle.runs.specs.Classes.{Skips};
 ghost use Rattle.rules.specs.Dollars.{tagByte};
 ghost use Rattle.rules.specs.Numbers.{radixDigit, exponentMark, signLength};
 ghost use Rattle.rules.specs.Tokens.{afterDotAt};
@@ -149,18 +149,9 @@ pub(crate) fn is_spaceship(a: u8, b: u8, c: u8) -> bool
 // The class of one byte.
 pub(crate) fn only(a: u8) -> Class
     requires { ⌜ a < 0x80 ⌝ }
-    ensures { λ r. ⌜ edges r ≡ a ∷ (a + 1) ∷ 0 ∷ 0 ∷ 0 ∷ 0 ∷ 0 ∷ 0 ∷ [] ⌝ }
+    ensures { λ r. ⌜ r ≡ a ∷ (a + 1) ∷ 0 ∷ 0 ∷ 0 ∷ 0 ∷ 0 ∷ 0 ∷ [] ⌝ }
 {
-    Class {
-        a,
-        b: a + 1,
-        c: 0,
-        d: 0,
-        e: 0,
-        f: 0,
-        g: 0,
-        h: 0,
-    }
+    [a, a + 1, 0, 0, 0, 0, 0, 0]
 }
 
 // Over the bytes of ASCII from `at` on that a word has, by eights: the last seven bytes of the text may be left.
@@ -168,16 +159,7 @@ pub(crate) fn skip_words(text: &[u8], at: usize) -> usize
     requires { ⌜ at ≤ length (now text) ⌝ }
     ensures { λ r. ⌜ Skips asciiWord (now (text .entry)) at r ⌝ }
 {
-    let class = Class {
-        a: b'0',
-        b: b':',
-        c: b'A',
-        d: b'[',
-        e: b'_',
-        f: b'`',
-        g: b'a',
-        h: b'{',
-    };
+    let class = [b'0', b':', b'A', b'[', b'_', b'`', b'a', b'{'];
     runs::skip(text, at, false, class)
 }
 
@@ -186,16 +168,7 @@ pub(crate) fn skip_digits(text: &[u8], at: usize) -> usize
     requires { ⌜ at ≤ length (now text) ⌝ }
     ensures { λ r. ⌜ Skips digit (now (text .entry)) at r ⌝ }
 {
-    let class = Class {
-        a: b'0',
-        b: b':',
-        c: 0,
-        d: 0,
-        e: 0,
-        f: 0,
-        g: 0,
-        h: 0,
-    };
+    let class = [b'0', b':', 0, 0, 0, 0, 0, 0];
     runs::skip(text, at, false, class)
 }
 
@@ -204,16 +177,7 @@ pub(crate) fn skip_spaces(text: &[u8], at: usize) -> usize
     requires { ⌜ at ≤ length (now text) ⌝ }
     ensures { λ r. ⌜ Skips (λ b. ltb b 0x80 && whiteSpace b) (now (text .entry)) at r ⌝ }
 {
-    let k = Class {
-        a: b'\t',
-        b: 14,
-        c: b' ',
-        d: b'!',
-        e: 0,
-        f: 0,
-        g: 0,
-        h: 0,
-    };
+    let k = [b'\t', 14, b' ', b'!', 0, 0, 0, 0];
     runs::skip(text, at, false, k)
 }
 
@@ -237,15 +201,6 @@ pub(crate) fn skip_to_either(text: &[u8], at: usize, a: u8, b: u8) -> usize
     if (x == a) | (x == b) {
         return at;
     }
-    let k = Class {
-        a,
-        b: a + 1,
-        c: b,
-        d: b + 1,
-        e: 0,
-        f: 0,
-        g: 0,
-        h: 0,
-    };
+    let k = [a, a + 1, b, b + 1, 0, 0, 0, 0];
     runs::skip(text, at, true, k)
 }

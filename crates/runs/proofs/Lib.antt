@@ -3,3 +3,4 @@ pub mod Packed
 pub mod Lanes
 pub mod Firsts
 pub mod Pairs
+pub mod Edges

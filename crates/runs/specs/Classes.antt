@@ -5,15 +5,15 @@ use mathlib.Core.List.{List, [], _∷_}
 use mathlib.Core.Bool.{Bool, true, false, not, cond, _&&_}
 use lib.ListN.{length, getD}
 use lib.Dec.{leb, ltb}
-use Rattle.runs.specs.declared.Class.{Class}
-
-abbrev pub edges : Class → List ℕ
-edges k = k .a ∷ k .b ∷ k .c ∷ k .d ∷ k .e ∷ k .f ∷ k .g ∷ k .h ∷ []
 
 -- No edge lies past the end of ASCII.
 abbrev pub Ascii : List ℕ → Type 0
 Ascii [] = Unit
 Ascii (e ∷ es) = (e ≤ 0x80) × Ascii es
+
+-- Four pairs of such edges.
+abbrev pub Edges : List ℕ → Type 0
+Edges es = (length es ≡ 8) × Ascii es
 
 -- An odd number of the edges are at most b.
 unfoldable pub past : List ℕ → ℕ → Bool

@@ -3,20 +3,11 @@ ghost use mathlib.Core.Path.{_≡_};
 ghost use mathlib.Core.Bool.{Bool, true, false, _&&_};
 ghost use Prim.Native.Nat.{ℕ, _+_, _-_, _*_, _≤_, _<_};
 ghost use lib.ListN.{length, getD};
-ghost use Rattle.runs.specs.Classes.{edges, Ascii, inside, passes, Skips, Unpaired};
+ghost use Rattle.runs.specs.Classes.{Edges, inside, passes, Skips, Unpaired};
 ghost use Rattle.runs.specs.Lanes.{ones, packed, others};
 
 // A class of bytes of ASCII: from one edge on and below the next, of which there are four pairs. Two equal ones bound nothing.
-pub struct Class {
-    pub a: u8,
-    pub b: u8,
-    pub c: u8,
-    pub d: u8,
-    pub e: u8,
-    pub f: u8,
-    pub g: u8,
-    pub h: u8,
-}
+pub type Class = [u8; 8];
 
 // The two bytes from i on as one number, the first lowest; then four, and eight. It becomes one load.
 fn two(text: &[u8], i: usize) -> u64
@@ -50,22 +41,23 @@ fn raised(y: u64, edge: u8) -> u64
 
 // The high bit of each byte that is not in the class.
 pub fn others(x: u64, k: Class) -> u64
-    requires { ⌜ Ascii (edges k) ⌝ }
-    ensures { λ r. ⌜ r ≡ others 8 (edges k) x ⌝ }
+    requires { ⌜ Edges k ⌝ }
+    ensures { λ r. ⌜ r ≡ others 8 k x ⌝ }
 {
     let y = x & 0x7F7F_7F7F_7F7F_7F7F;
-    let w = raised(y, k.a)
-        ^ (raised(y, k.b)
-            ^ (raised(y, k.c)
-                ^ (raised(y, k.d)
-                    ^ (raised(y, k.e) ^ (raised(y, k.f) ^ (raised(y, k.g) ^ raised(y, k.h)))))));
+    let w = raised(y, k[0])
+        ^ (raised(y, k[1])
+            ^ (raised(y, k[2])
+                ^ (raised(y, k[3])
+                    ^ (raised(y, k[4])
+                        ^ (raised(y, k[5]) ^ (raised(y, k[6]) ^ raised(y, k[7])))))));
     ((w ^ 0x8080_8080_8080_8080) | x) & 0x8080_8080_8080_8080
 }
 
 // Where the bytes from `at` on end that are in the class; or, where `out`, those that are not.
 pub fn skip(text: &[u8], at: usize, out: bool, k: Class) -> usize
-    requires { ⌜ (at ≤ length (now text)) × Ascii (edges k) ⌝ }
-    ensures { λ r. ⌜ Skips (passes out (edges k)) (now (text .entry)) at r ⌝ }
+    requires { ⌜ (at ≤ length (now text)) × Edges k ⌝ }
+    ensures { λ r. ⌜ Skips (passes out k) (now (text .entry)) at r ⌝ }
 {
     let flip = if out { 0x8080_8080_8080_8080 } else { 0 };
     let mut j = at;
@@ -81,16 +73,16 @@ pub fn skip(text: &[u8], at: usize, out: bool, k: Class) -> usize
 
 // True only if none of the eight bytes from i on is of the first class before one of the second.
 fn no_pairs(text: &[u8], i: usize, a: Class, b: Class) -> bool
-    requires { ⌜ (i + 9 ≤ length (now text)) × Ascii (edges a) × Ascii (edges b) ⌝ }
-    ensures { λ r. ⌜ (r ≡ true → (k : ℕ) → k < 8 → (inside (edges a) (getD (now (text .entry)) (i + k) 0) && inside (edges b) (getD (now (text .entry)) (i + 1 + k) 0)) ≡ false) ⌝ }
+    requires { ⌜ (i + 9 ≤ length (now text)) × Edges a × Edges b ⌝ }
+    ensures { λ r. ⌜ (r ≡ true → (k : ℕ) → k < 8 → (inside a (getD (now (text .entry)) (i + k) 0) && inside b (getD (now (text .entry)) (i + 1 + k) 0)) ≡ false) ⌝ }
 {
     (others(eight(text, i), a) | others(eight(text, i + 1), b)) == 0x8080_8080_8080_8080
 }
 
 // Over bytes none of which is of the first class before one of the second, eight at a time, but of the last eight perhaps none.
 pub fn skip_pairs(text: &[u8], at: usize, a: Class, b: Class) -> usize
-    requires { ⌜ (at ≤ length (now text)) × Ascii (edges a) × Ascii (edges b) ⌝ }
-    ensures { λ r. ⌜ Unpaired (inside (edges a)) (inside (edges b)) (now (text .entry)) at r ⌝ }
+    requires { ⌜ (at ≤ length (now text)) × Edges a × Edges b ⌝ }
+    ensures { λ r. ⌜ Unpaired (inside a) (inside b) (now (text .entry)) at r ⌝ }
 {
     let mut i = at;
     while text.len() - i >= 9 {

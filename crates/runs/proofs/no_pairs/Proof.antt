@@ -6,7 +6,6 @@ use mathlib.Core.Path.{_≡_, sym, ap, ap₂, _∙_}
 use denote.Ref.{now}
 use lib.Bits.{bitOr}
 use borrow.Author.Tests.{eqb-true}
-use Rattle.runs.specs.Classes.{edges}
 use Rattle.runs.specs.Lanes.{ones, others}
 use Rattle.runs.proofs.Pairs.{unpaired}
 use Rattle.runs.proofs.no_pairs.Statement.{statement}
@@ -17,8 +16,8 @@ unfolding ones
 returns c = λ e k h.
     let g = c .before .before .before .before .before in
     let s = now (g .args .text) in
-    let x = sym (ap₂ bitOr (c .before .before .others .ensures ∙ ap (others 8 (edges (g .args .a))) (c .before .before .before .eight .ensures)) (c .others2 .ensures ∙ ap (others 8 (edges (g .args .b))) (c .before .eight2 .ensures))) ∙ eqb-true _ _ e in
-    unpaired s (λ n. omega (arith, c .before .before .before .before .shared-slice-known .given n)) (edges (g .args .a)) (edges (g .args .b)) (g .pre .1) (g .pre .2) 8 (g .args .i) x k h
+    let x = sym (ap₂ bitOr (c .before .before .others .ensures ∙ ap (others 8 (g .args .a)) (c .before .before .before .eight .ensures)) (c .others2 .ensures ∙ ap (others 8 (g .args .b)) (c .before .eight2 .ensures))) ∙ eqb-true _ _ e in
+    unpaired s (λ n. omega (arith, c .before .before .before .before .shared-slice-known .given n)) (g .args .a) (g .args .b) (g .pre .1 .1) (g .pre .2 .1) 8 (g .args .i) x k h
 
 pub no-pairs-spec : {M : Type 1} → statement M
 no-pairs-spec =

@@ -9,12 +9,12 @@ use mathlib.Core.List.{List}
 use mathlib.Core.Bool.{Bool, false, _&&_}
 use denote.Ref.{now}
 use lib.ListN.{length, getD}
-use Rattle.runs.specs.Classes.{edges, inside, Unpaired}
+use Rattle.runs.specs.Classes.{inside, Unpaired}
 use Rattle.runs.proofs.skip_pairs.Statement.{statement}
 use Rattle.runs.proofs.skip_pairs.Tie as tie
 
 abbrev Inv-loop : tie.InvT-loop
-Inv-loop text at a b i₀ i = Unpaired (inside (edges a)) (inside (edges b)) text at i
+Inv-loop text at a b i₀ i = Unpaired (inside a) (inside b) text at i
 
 abbrev μ-loop : tie.MeasureT-loop
 μ-loop text at a b i₀ i = length text - i

@@ -7,9 +7,9 @@ use denote.Ref.{now}
 use lib.Dec.{eqb}
 use borrow.Author.Needs.{needs}
 use borrow.Author.Tests.{eq-eqb}
-use Rattle.runs.specs.Classes.{Ascii, passes}
+use Rattle.runs.specs.Classes.{Edges, passes}
 use Rattle.lexer.proofs.Skips.{skips-as, skips-none}
-use Rattle.lexer.proofs.Edges.{outside-one, ascii-one}
+use Rattle.lexer.proofs.Edges.{outside-one, edges-one}
 use Rattle.lexer.proofs.bytes.skip_to.Statement.{statement}
 use Rattle.lexer.proofs.bytes.skip_to.Tie as tie
 
@@ -31,5 +31,5 @@ skip-to-spec =
     (λ c κs. search needs)
     returns
     (λ c κs. search needs)
-    (λ c κs. let g = c .before .before .before .before in (g .pre .0, subst Ascii (sym (c .only .ensures)) (ascii-one (g .args .a) (g .pre .1))))
+    (λ c κs. let g = c .before .before .before .before in (g .pre .0, subst Edges (sym (c .only .ensures)) (edges-one (g .args .a) (g .pre .1))))
     returns-2)

@@ -16,9 +16,9 @@ use Rattle.rules.specs.Characters.{dollar}
 use Rattle.rules.specs.Dollars.{begins}
 use Rattle.rules.proofs.Tests.{clash, both}
 use Rattle.rules.proofs.HereDocs.{begins-fits, find-at, find-over, no-dollar}
-use Rattle.runs.specs.Classes.{Ascii, inside}
+use Rattle.runs.specs.Classes.{Edges, inside}
 use Rattle.lexer.specs.HereDocs.{foundEnd}
-use Rattle.lexer.proofs.Edges.{ascii-one, inside-one}
+use Rattle.lexer.proofs.Edges.{edges-one, inside-one}
 use Rattle.lexer.proofs.HereDocs.{searched, search-on, search-over, pairs-over}
 use Rattle.lexer.proofs.tokenizer.find_delimiter.Statement.{statement}
 use Rattle.lexer.proofs.tokenizer.find_delimiter.Tie as tie
@@ -103,7 +103,7 @@ find-delimiter-spec =
     (λ c. refl)
     (λ c κs. omega arith)
     (λ c κs. low (c .before .before .before .before .before .before))
-    (λ c κs. let g = c .before .before .before .before .before .before .before in (omega arith, subst Ascii (sym (c .before .only .ensures)) (ascii-one dollar (omega arith)), subst Ascii (sym (c .only2 .ensures)) (ascii-one _ (low g))))
+    (λ c κs. let g = c .before .before .before .before .before .before .before in (omega arith, subst Edges (sym (c .before .only .ensures)) (edges-one dollar (omega arith)), subst Edges (sym (c .only2 .ensures)) (edges-one _ (low g))))
     (λ c κs. (c .skip-pairs .ensures .upto, omega arith))
     (λ c. inner (c .before))
     (λ c κs. c .before .before .before .before .before .before .before .before .before .before .before .before .pre .0 .1)
