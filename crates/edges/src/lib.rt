@@ -10,8 +10,9 @@ use lexer::tokenizer::read_string;
 ghost use mathlib.Core.Path.{_≡_};
 ghost use Prim.Native.Nat.{ℕ, _-_, _≤_, _<_};
 ghost use lib.Dec.{leb};
-ghost use lib.ListN.{length};
+ghost use lib.ListN.{length, getD};
 ghost use mathlib.Core.List.{List};
+ghost use Rattle.rules.specs.Characters.{dollar, quote};
 ghost use Rattle.rules.specs.Kinds.{NoToken};
 ghost use Rattle.rules.specs.Limits.{maxQuerySize};
 ghost use Rattle.lexer.specs.Ends.{Lexes};
@@ -366,24 +367,34 @@ pub struct Next {
     pub bits: u64,
 }
 
+// A string, or what a `$` is or begins. Called at two places it stays out of line, and `read` is so small that every loop has it in line.
+fn read_enclosed(text: &[u8], start: usize, until: usize, lone: &[u64]) -> u64
+    requires { ⌜ (length (now text) ≤ maxQuerySize) × (start < length (now text)) × ((getD (now text) start 0 ≡ dollar → ⊥) → getD (now text) start 0 ≡ quote) × Marked (now text) start until (now lone) ⌝ }
+    ensures { λ r. ⌜ Lexes (now (text .entry)) start r ⌝ }
+{
+    if text[start] == b'$' {
+        return read_dollar(text, start, until, lone);
+    }
+    let string = read_string(
+        text,
+        start + 1,
+        b'\'',
+        SyntaxKind::StringToken,
+        SyntaxKind::ErrorSingleQuoteIsNotClosed,
+    );
+    join(string.kind, string.end)
+}
+
 // The token at `start` by its readers, as one number. `until` and `lone` are what the last look ahead gave.
 pub fn read(text: &[u8], start: usize, until: usize, lone: &[u64]) -> u64
     requires { ⌜ (length (now text) ≤ maxQuerySize) × (start < length (now text)) × Marked (now text) start until (now lone) ⌝ }
     ensures { λ r. ⌜ Lexes (now (text .entry)) start r ⌝ }
 {
-    // Most of what is read is a string.
     if text[start] == b'\'' {
-        let string = read_string(
-            text,
-            start + 1,
-            b'\'',
-            SyntaxKind::StringToken,
-            SyntaxKind::ErrorSingleQuoteIsNotClosed,
-        );
-        return join(string.kind, string.end);
+        return read_enclosed(&text[0..], start, until, lone);
     }
     if text[start] == b'$' {
-        return read_dollar(text, start, until, lone);
+        return read_enclosed(&text[0..], start, until, lone);
     }
     next_token(&text[0..], start)
 }

@@ -1,17 +1,19 @@
 -- Which tokens a listing has: one choice of tokens serves the whole listing and the listing up to a position.
 -- Assumes nothing.
-use Prim.Native.Nat.{ℕ, _≤_, _<_}
+use Prim.Native.Nat.{ℕ, _+_, _/_, _%_, _^_, _≤_, _<_}
 use native.Mathlib.Omega.{arith}
 use mathlib.Core.Path.{_≡_, refl, sym, ap, _∙_, fun-ext}
 use mathlib.Core.Logic.{_⊎_, inl, inr}
 use mathlib.Core.List.{List, [], _∷_}
-use mathlib.Core.Bool.{Bool, true, false, not, cond, or-false}
-use lib.Dec.{eqb}
+use mathlib.Core.Bool.{Bool, true, false, not, cond, _&&_, _||_, or-false}
+use lib.Dec.{eqb, leb}
 use lib.ListN.{length, drop}
-use borrow.Author.Tests.{lt-ltb}
-use Rattle.rules.specs.Kinds.{Whitespace}
+use native.Mathlib.Decide.{decLt}
+use borrow.Author.Tests.{lt-ltb, le-leb, ne-eqb}
+use Rattle.rules.specs.Kinds.{Whitespace, Comment}
 use Rattle.rules.specs.Tokens.{Token, token, tokens, tokensFrom, lexeme, afterDotAt}
 use Rattle.rules.specs.Listing.{lean, only, leanKeeps, leanUpToKeeps, startsBefore, wholeList, listUpTo}
+use Rattle.rules.proofs.Tables.{agree-at}
 use Rattle.rules.proofs.Edges.{Tiles, tiles, tiles-le, tiles-count, from-start}
 use Rattle.rules.proofs.Listing.{only-yes, only-no, only-none, only-length, up-to-stop, up-to-step}
 use Rattle.lists.specs.declared.listing.Choice.{Choice}
@@ -95,3 +97,32 @@ module _ (c : Choice) (s : List ℕ) (i : ℕ) where
     pub chosen-drop : keeps c (r .kind) ≡ false → chosen c s i ≡ chosen c s (r .end)
     unfolding chosen
     chosen-drop k = step ∙ only-no (λ t. keeps c (t .kind)) (token (r .kind) i (r .end)) (only (startsBefore (c .position)) (tokensFrom s (r .end))) k
+
+-- A kind's bit among those that are dropped, white space's and a comment's, tells whether it is kept.
+abbrev keptBy : Bool → Bool → ℕ → Bool
+keptBy whites comments k = leb 64 k || eqb ((cond whites 2 0 + cond comments 4 0) / 2 ^ (k % 64) % 2) 0
+
+abbrev kept : Bool → Bool → ℕ → Bool
+kept whites comments = keeps (choice 0 whites comments)
+
+kept-below : (w c : Bool) (k : ℕ) → k < 64 → keptBy w c k ≡ kept w c k
+kept-below true true = agree-at (keptBy true true) (kept true true) 64 refl
+kept-below true false = agree-at (keptBy true false) (kept true false) 64 refl
+kept-below false true = agree-at (keptBy false true) (kept false true) 64 refl
+kept-below false false = agree-at (keptBy false false) (kept false false) 64 refl
+
+kept-past : (w c : Bool) (k : ℕ) → 64 ≤ k → keptBy w c k ≡ kept w c k
+kept-past w c k h = simp (le-leb 64 k h, ne-eqb k Whitespace (λ e. omega arith), ne-eqb k Comment (λ e. omega arith)) (go w c)
+  where
+    go : (w c : Bool) → true ≡ not ((w && false) || (c && false))
+    go true true = refl
+    go true false = refl
+    go false true = refl
+    go false false = refl
+
+pub kept-bit : (w c : Bool) (k : ℕ) → keptBy w c k ≡ kept w c k
+kept-bit w c k = go (decLt k 64)
+  where
+    go : Dec (k < 64) → keptBy w c k ≡ kept w c k
+    go (yes l) = kept-below w c k l
+    go (no l) = kept-past w c k (omega arith)

@@ -89,12 +89,19 @@ pub enum Plan {
 }
 
 impl Choice {
+    // By the bits of the kinds that are dropped, which do not change in a loop: it makes them once, and a token takes one test.
     pub fn keeps(self, kind: u32) -> bool
         ensures { λ r. ⌜ r ≡ keeps self kind ⌝ }
     {
-        !((self.drop_whitespace & (kind == SyntaxKind::Whitespace))
-            | (self.drop_comment & (kind == SyntaxKind::Comment)))
+        let dropped = bit_if(self.drop_whitespace, 2) + bit_if(self.drop_comment, 4);
+        (kind >= 64) | ((dropped >> (kind % 64)) % 2 == 0)
     }
+}
+
+fn bit_if(test: bool, bit: u64) -> u64
+    ensures { λ r. ⌜ (r ≡ cond test bit 0) × (r ≤ bit) ⌝ }
+{
+    if test { bit } else { 0 }
 }
 
 // How far a text is counted: the tokens that are kept before a cursor.

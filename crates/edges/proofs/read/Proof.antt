@@ -1,32 +1,31 @@
--- `edges::read` meets its contract: a string, a `$`, or what the tokenizer reads. Assumes nothing.
-use Prim.Native.Nat.{_+_}
-use native.Mathlib.Omega.{arith}
+-- `edges::read` meets its contract: what is enclosed, or what the tokenizer reads. Assumes nothing.
 use borrow.Author.Needs.{needs}
-use mathlib.Core.Path.{_≡_, sym, ap, _∙_}
-use mathlib.Core.Bool.{false}
+use mathlib.Core.Path.{_≡_, sym, ap, _∙_, subst}
+use mathlib.Core.List.{List}
+use Prim.Native.Nat.{ℕ, _≤_, _<_}
 use denote.Ref.{now}
-use lib.ListN.{drop}
-use Rattle.rules.specs.Utf8.{chars}
-use Rattle.rules.specs.Characters.{quote}
-use Rattle.rules.specs.Kinds.{StringToken, ErrorSingleQuoteIsNotClosed}
-use Rattle.rules.specs.Quotes.{quotedBody}
-use Rattle.rules.specs.Tokens.{afterDotAt}
-use Rattle.rules.proofs.RuleBytes.{by-quote}
-use Rattle.lexer.specs.Ends.{endsAt, joined}
-use Rattle.lexer.proofs.Ends.{opened-by, lexes, sliced-token}
+use lib.ListN.{length, getD}
+use Rattle.rules.specs.Characters.{dollar, quote}
+use Rattle.rules.specs.Limits.{maxQuerySize}
+use Rattle.ahead.specs.Marks.{Marked}
+use Rattle.lexer.specs.Ends.{joined, Lexes}
+use Rattle.lexer.proofs.Ends.{lexes, sliced, sliced-token}
 use Rattle.edges.proofs.read.Statement.{statement}
 use Rattle.edges.proofs.read.Tie as tie
 
+-- what is asked of a text that is handed on as a slice of itself
+abbrev Asks : ℕ → ℕ → List ℕ → List ℕ → Type 0
+Asks i until lone t = (length t ≤ maxQuerySize) × (i < length t) × ((getD t i 0 ≡ dollar → ⊥) → getD t i 0 ≡ quote) × Marked t i until lone
+
 returns : tie.Need-returns
 returns c =
-    let q = c .before .before in
     let g = c .before .before .before .before .before .before in
-    let s = now (g .args .text) in
-    let i = g .args .start in
-    let e =
-    c .before .read-string .ensures ∙ opened-by i 1 (quotedBody quote false (chars (drop (i + 1) s))) StringToken ErrorSingleQuoteIsNotClosed
-    ∙ ap (endsAt i) (sym (by-quote (afterDotAt s i) s i (g .pre .1) (omega (arith, q .if1 .taken)) (q .if1 .taken))) in
-    lexes s i _ (g .pre .0) (g .pre .1) (c .join .ensures ∙ ap joined e)
+    subst (λ (t : List ℕ). Lexes t (g .args .start) (c .read-enclosed .result)) (sliced (now (g .args .text))) (c .read-enclosed .ensures)
+
+returns-2 : tie.Need-returns-2
+returns-2 c =
+    let g = c .before .before .before .before .before .before .before .before in
+    subst (λ (t : List ℕ). Lexes t (g .args .start) (c .read-enclosed2 .result)) (sliced (now (g .args .text))) (c .read-enclosed2 .ensures)
 
 returns-3 : tie.Need-returns-3
 returns-3 c =
@@ -41,12 +40,16 @@ read-spec =
     (tie.spec
     (λ c. search needs)
     (λ c. search needs)
-    (λ c κs. search needs)
-    (λ c κs. search needs)
+    (λ c. search needs)
+    (λ c. search needs)
+    (λ c κs. let g = c .before .before .before .before .before in let s = now (g .args .text) in subst (Asks (g .args .start) (g .args .until) (now (g .args .lone))) (sym (sliced s)) (g .pre .0, g .pre .1, (λ n. c .before .if1 .taken), g .pre .2))
     returns
     (λ c. search needs)
-    (λ c κs. let g = c .before .before .before .before .before .before in (g .pre .0, g .pre .1, c .if2 .taken, g .pre .2))
-    (λ c. c .read-dollar .ensures)
+    (λ c. search needs)
+    (λ c. search needs)
+    (λ c. search needs)
+    (λ c κs. let g = c .before .before .before .before .before .before .before in let s = now (g .args .text) in subst (Asks (g .args .start) (g .args .until) (now (g .args .lone))) (sym (sliced s)) (g .pre .0, g .pre .1, (λ n. absurd (n (c .before .if2 .taken))), g .pre .2))
+    returns-2
     (λ c. search needs)
     (λ c. search needs)
     (λ c. search needs)
