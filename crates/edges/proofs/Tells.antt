@@ -9,7 +9,7 @@ use mathlib.Core.Logic.{_⊎_, inl, inr}
 use lib.ListN.{getD}
 use lib.Dec.{leb, ltb, eqb}
 use borrow.Author.Tests.{not-true, ltb-true, eq-eqb, le-leb}
-use Rattle.rules.specs.Characters.{dollar, dot, backslash}
+use Rattle.rules.specs.Characters.{dollar, dot, equals, greater, backslash}
 use Rattle.rules.specs.Kinds.{NoToken, Whitespace, Number, BareWord, DollarSign}
 use Rattle.rules.specs.Operators.{single}
 use Rattle.rules.specs.Words.{startsWord}
@@ -17,7 +17,7 @@ use Rattle.rules.specs.Dollars.{tagByte}
 use Rattle.rules.proofs.Tests.{clash, eqb-true, or-cases, and-both}
 use Rattle.rules.proofs.Tables.{agree, agree-at}
 use Rattle.lexer.specs.FirstBytes.{among, firstByteKind}
-use Rattle.edges.specs.Leads.{seconds, after, minds, plainKind, lead, told, leadsFrom, leadTable}
+use Rattle.edges.specs.Leads.{beforeEquals, beforeGreater, beforeOthers, others, after, minds, plainKind, lead, told, leadsFrom, leadTable}
 
 from : (n b k : ℕ) → k < n → getD (leadsFrom n b) k 0 ≡ lead (b + k)
 unfolding leadsFrom
@@ -112,17 +112,32 @@ module _ (a b : ℕ) (la : a < 256) (lb : b < 256) (t : told (lead a) (lead b) �
   unfolding lead minds after plainKind firstByteKind single
   of-space e = not-class Whitespace 4 refl e
 
-  pub of-longer : 0x80 ≤ firstByteKind a → (eqb a backslash ≡ false) × (eqb (after b) 3 ≡ false)
+  pub not-backslash : 0x80 ≤ firstByteKind a → eqb a backslash ≡ false
   unfolding lead minds after plainKind firstByteKind single
-  of-longer h =
-      let k = knows (λ a c. ltb 6 c || (not (leb 0x80 (firstByteKind a)) || (not (eqb a backslash) && not (eqb c 3)))) refl in
+  not-backslash h =
+      let k = knows (λ a c. ltb 6 c || (not (leb 0x80 (firstByteKind a)) || not (eqb a backslash))) refl in
       go (ltb 6 (after b)) refl k
     where
-      go : (x : Bool) → ltb 6 (after b) ≡ x → (x || (not (leb 0x80 (firstByteKind a)) || (not (eqb a backslash) && not (eqb (after b) 3)))) ≡ true → (eqb a backslash ≡ false) × (eqb (after b) 3 ≡ false)
+      go : (x : Bool) → ltb 6 (after b) ≡ x → (x || (not (leb 0x80 (firstByteKind a)) || not (eqb a backslash))) ≡ true → eqb a backslash ≡ false
       go true q k = let l = ltb-true 6 (after b) q in let h = small b lb in absurd (omega arith)
-      go false q k =
-          let m = and-both (not (eqb a backslash)) (not (eqb (after b) 3)) (implied (leb 0x80 (firstByteKind a)) _ k (le-leb 0x80 (firstByteKind a) h)) in
-          (not-true _ (m .0), not-true _ (m .1))
+      go false q k = not-true _ (implied (leb 0x80 (firstByteKind a)) (not (eqb a backslash)) k (le-leb 0x80 (firstByteKind a) h))
+
+  -- first bytes that mind a class
+  module _ (ks : List ℕ) (c : ℕ) (f : agree (pair (λ a d. not (among ks a) || not (eqb d c))) (λ n. true) 2048 ≡ true) where
+    not-after : among ks a ≡ true → eqb (after b) c ≡ false
+    not-after e = not-true _ (implied (among ks a) (not (eqb (after b) c)) (knows (λ a d. not (among ks a) || not (eqb d c)) f) e)
+
+  pub of-equals : among beforeEquals a ≡ true → eqb (after b) 6 ≡ false
+  unfolding lead minds after plainKind firstByteKind single
+  of-equals = not-after beforeEquals 6 refl
+
+  pub of-greater : among beforeGreater a ≡ true → eqb (after b) 2 ≡ false
+  unfolding lead minds after plainKind firstByteKind single
+  of-greater = not-after beforeGreater 2 refl
+
+  pub of-others : among beforeOthers a ≡ true → eqb (after b) 3 ≡ false
+  unfolding lead minds after plainKind firstByteKind single
+  of-others = not-after beforeOthers 3 refl
 
 -- what the byte after a token is not
 module _ (b : ℕ) (l : b < 256) where
@@ -159,9 +174,17 @@ module _ (b : ℕ) (l : b < 256) where
   unfolding after
   not-dollar e = not-true _ (byte (λ b. not (eqb b dollar)) 6 refl e)
 
-  pub not-second : eqb (after b) 3 ≡ false → among seconds b ≡ false
+  pub not-equals : eqb (after b) 6 ≡ false → eqb b equals ≡ false
   unfolding after
-  not-second e = not-true _ (byte (λ b. not (among seconds b)) 3 refl e)
+  not-equals e = not-true _ (byte (λ b. not (eqb b equals)) 6 refl e)
+
+  pub not-greater : eqb (after b) 2 ≡ false → eqb b greater ≡ false
+  unfolding after
+  not-greater e = not-true _ (byte (λ b. not (eqb b greater)) 2 refl e)
+
+  pub not-other : eqb (after b) 3 ≡ false → among others b ≡ false
+  unfolding after
+  not-other e = not-true _ (byte (λ b. not (among others b)) 3 refl e)
 
 pub kind-of : (b : ℕ) → b < 256 → lead b % 64 ≡ plainKind b
 kind-of b l = parts b l .1

@@ -10,7 +10,7 @@ use mathlib.Core.Logic.{_⊎_, inl, inr}
 use lib.ListN.{length, getD, drop}
 use lib.Dec.{ltb, eqb}
 use borrow.Author.Tests.{ltb-true, ltb-false, lt-ltb, not-true, eq-eqb}
-use Rattle.rules.specs.Characters.{dollar, star, dash, slash, colon, less, equals, greater, at, backslash, bar}
+use Rattle.rules.specs.Characters.{exclamation, dollar, star, dash, slash, colon, less, equals, greater, at, backslash, bar}
 use Rattle.rules.specs.Utf8.{within}
 use Rattle.rules.specs.Classes.{inRanges, whiteSpace, digit}
 use Rattle.rules.specs.Tables.{whiteSpaceTable}
@@ -41,8 +41,8 @@ use Rattle.lexer.proofs.Runs.{run-over}
 use Rattle.lexer.proofs.FastNumbers.{told-whole}
 use Rattle.lexer.proofs.Decided.{told-alone, told-single}
 use Rattle.blocks.specs.Edges.{wordEdges, figureEdges, outside, cuts, edge}
-use Rattle.edges.specs.Leads.{seconds, after, plainKind, lead, told}
-use Rattle.edges.proofs.Tells.{some-kind, of-dollar, of-word, of-number, of-space, of-longer, not-wide, not-letter, not-dot, not-tag, not-dollar, not-second, kind-of, kind-told, kind-small}
+use Rattle.edges.specs.Leads.{beforeEquals, beforeGreater, beforeOthers, others, after, plainKind, lead, told}
+use Rattle.edges.proofs.Tells.{some-kind, of-dollar, of-word, of-number, of-space, not-backslash, of-equals, of-greater, of-others, not-wide, not-letter, not-dot, not-tag, not-dollar, not-equals, not-greater, not-other, kind-of, kind-told, kind-small}
 
 -- The two classes of a byte.
 abbrev inWord : ℕ → Bool
@@ -120,12 +120,38 @@ other-off true false e = clash refl e
 other-off false true e = clash refl e
 other-off false false e = clash refl e
 
--- two operators' bytes that are none together
-pair-second : (a b : ℕ) → eqb a backslash ≡ false → among seconds b ≡ false → pair a b ≡ 0
-unfolding pair
-pair-second a b e m =
-    let n = not-among seconds b m in
-    simp (e, n equals refl, n greater refl, n colon refl, n bar refl, n at refl, and-false)
+-- an operator's byte and the one after it, where nothing longer begins with the two
+module _ (a b : ℕ) (p : among beforeEquals a ≡ true → eqb b equals ≡ false) (q : among beforeGreater a ≡ true → eqb b greater ≡ false)
+    (r : among beforeOthers a ≡ true → among others b ≡ false) where
+  off : (ks : List ℕ) (x y : ℕ) → (among ks a ≡ true → eqb b y ≡ false) → among ks x ≡ true → two a b x y ≡ false
+  off ks x y f m = go (eqb a x) refl
+    where
+      go : (t : Bool) → eqb a x ≡ t → (t && eqb b y) ≡ false
+      go true e = f (ap (among ks) (eqb-true e) ∙ m)
+      go false e = refl
+
+  other : (x y : ℕ) → among beforeOthers x ≡ true → among others y ≡ true → two a b x y ≡ false
+  other x y m n = off beforeOthers x y (λ e. not-among others b (r e) y n) m
+
+  no-pair : eqb a backslash ≡ false → pair a b ≡ 0
+  unfolding pair
+  no-pair e =
+      simp (
+        e,
+        off beforeEquals exclamation equals p refl,
+        off beforeEquals less equals p refl,
+        off beforeEquals greater equals p refl,
+        off beforeEquals equals equals p refl,
+        off beforeGreater less greater q refl,
+        off beforeGreater dash greater q refl,
+        off beforeGreater equals greater q refl,
+        other colon colon refl refl,
+        other bar bar refl refl,
+        other at at refl refl,
+      )
+
+  no-ship : (d : ℕ) → spaceship a b d ≡ false
+  no-ship d = simp (off beforeEquals less equals p refl, off beforeGreater equals greater q refl)
 
 module _ (s : List ℕ) (i e : ℕ) (fits : (k : ℕ) → getD s k 0 < 256) (h : i < length s) (l : i < e) (room : e + 8 ≤ length s)
     (none : (q : ℕ) → i < q → q < e → edge s q ≡ false) (some : edge s e ≡ true) (t : told (lead (getD s i 0)) (lead (getD s e 0)) ≡ true) where
@@ -271,12 +297,13 @@ module _ (s : List ℕ) (i e : ℕ) (fits : (k : ℕ) → getD s k 0 < 256) (h :
   longer : BareWord < firstByteKind a → 0x80 ≤ firstByteKind a → Is
   longer m n =
       let o = lead-operates a m in
-      let u = of-longer a b (fits i) (fits e) t n in
       let q = at-next (o .word) (o .space) in
-      let sec : among seconds (getD s (i + 1) 0) ≡ false = subst (λ (k : ℕ). among seconds (getD s k 0) ≡ false) q (not-second b (fits e) (u .1)) in
-      let w = not-among seconds (getD s (i + 1) 0) sec in
+      let f : among beforeEquals a ≡ true → eqb (getD s (i + 1) 0) equals ≡ false = λ z. subst (λ (k : ℕ). eqb (getD s k 0) equals ≡ false) q (not-equals b (fits e) (of-equals a b (fits i) (fits e) t z)) in
+      let g : among beforeGreater a ≡ true → eqb (getD s (i + 1) 0) greater ≡ false = λ z. subst (λ (k : ℕ). eqb (getD s k 0) greater ≡ false) q (not-greater b (fits e) (of-greater a b (fits i) (fits e) t z)) in
+      let r : among beforeOthers a ≡ true → among others (getD s (i + 1) 0) ≡ false = λ z. subst (λ (k : ℕ). among others (getD s k 0) ≡ false) q (not-other b (fits e) (of-others a b (fits i) (fits e) t z)) in
+      let c = getD s (i + 1) 0 in
       ap {B = Lexed} (λ (x : Lexed). x) (ends q)
-      ∙ told-single (afterDotAt s i) s i h o (simp (w equals refl, w greater refl, and-false)) (simp (w dash refl, and-false)) (simp (w star refl, and-false)) 0 (sym (pair-second a (getD s (i + 1) 0) (u .0) sec)) refl (lead a % 64) (lead-longer a n ∙ rest)
+      ∙ told-single (afterDotAt s i) s i h o (no-ship a c f g r (getD s (i + 2) 0)) (other a c f g r dash dash refl refl) (other a c f g r slash star refl refl) 0 (sym (no-pair a c f g r (not-backslash a b (fits i) (fits e) t n))) refl (lead a % 64) (lead-longer a n ∙ rest)
     where
       ends : e ≡ i + 1 → _≡_ {A = Lexed} (record { kind = lead a % 64; end = e }) (record { kind = lead a % 64; end = i + 1 })
       ends q = ap {B = Lexed} (λ (k : ℕ). record { kind = lead a % 64; end = k }) q

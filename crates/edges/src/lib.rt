@@ -57,7 +57,7 @@ pub const LEADS: Leads = [
     0x002F,
     0x002F,
     0x0401,
-    0x022D,
+    0x102D,
     0x1FC0,
     0x002F,
     0xD892,
@@ -69,7 +69,7 @@ pub const LEADS: Leads = [
     0x6011,
     0x0013,
     0x000E,
-    0x6214,
+    0x6314,
     0x4010,
     0x0216,
     0xA583,
@@ -84,9 +84,9 @@ pub const LEADS: Leads = [
     0xA583,
     0x6219,
     0x000F,
-    0x621F,
-    0x621C,
-    0x6221,
+    0x111F,
+    0xD11C,
+    0x5021,
     0x0018,
     0x6224,
     0x2484,
@@ -305,10 +305,10 @@ pub fn find(text: &[u8], at: usize, shy: bool) -> u64
     if text.len() - at < 72 {
         return 0;
     }
-    if is_among(text[at], 0x0000_0084_0000_0000, 0x0000_0001_1000_0000) {
+    if (text[at] | text[at + 1]) >= 0x80 {
         return 0;
     }
-    if text[at + 1] >= 0x80 {
+    if is_among(text[at], 0x0000_0084_0000_0000, 0x0000_0001_1000_0000) {
         return 0;
     }
     if shy {

@@ -134,9 +134,12 @@ fn count_some(text: &[u8], choice: Choice, from: Counted, until: usize, lone: &[
             let lexed = read(text, start, until, lone);
             token = taken(lexed, base, bits);
             shy = is_long(start, token.end);
-            wasted += wasted_by(lexed, text.len());
-            if wasted >= LOOK_AFTER {
-                stop = 0;
+            let more = wasted_by(lexed, text.len());
+            if more != 0 {
+                wasted += more;
+                if wasted >= LOOK_AFTER {
+                    stop = 0;
+                }
             }
         }
         cursor = token.end;
@@ -224,9 +227,12 @@ fn fill_some(
             let lexed = read(text, start, until, lone);
             token = taken(lexed, base, bits);
             shy = is_long(start, token.end);
-            wasted += wasted_by(lexed, text.len());
-            if wasted >= LOOK_AFTER {
-                stop = 0;
+            let more = wasted_by(lexed, text.len());
+            if more != 0 {
+                wasted += more;
+                if wasted >= LOOK_AFTER {
+                    stop = 0;
+                }
             }
         }
         cursor = token.end;

@@ -2,9 +2,10 @@
 use Prim.Native.Nat.{ℕ, zero, suc, _+_, _≤_}
 use mathlib.Core.Path.{_≡_}
 use mathlib.Core.List.{List, [], _∷_}
-use mathlib.Core.Bool.{cond}
+use mathlib.Core.Bool.{Bool, not, cond, _&&_, _||_}
+use lib.Dec.{leb, eqb}
 use lib.ListN.{length, getD, drop}
-use Rattle.rules.specs.Utf8.{utf8Tail, noCode, wellFormed, codeOf, validLength}
+use Rattle.rules.specs.Utf8.{within, utf8Tail, noCode, wellFormed, codeOf, validLength}
 use Rattle.utf8.specs.declared.Unit.{Unit}
 use Rattle.utf8.specs.declared.Unit.the-variants.{Char, Broken, End}
 
@@ -39,3 +40,11 @@ pub record Passes (s : List ℕ) (i j : ℕ) : Type 0 where
 -- The index i, or the next where the byte at i is a tail: where a character begins next, if none is longer than two bytes.
 abbrev pub afterTail : List ℕ → ℕ → ℕ
 afterTail s i = cond (utf8Tail (getD s i 0)) (i + 1) i
+
+-- Past two tails: where a character begins next, if none is longer than three.
+abbrev pub afterTails : List ℕ → ℕ → ℕ
+afterTails s i = cond (utf8Tail (getD s i 0)) (afterTail s (i + 1)) i
+
+-- A tail b may come after a: a tail, or the first of two bytes or of three. E0 and ED bound the second.
+abbrev pub takesTail : ℕ → ℕ → Bool
+takesTail a b = (utf8Tail a || within 0xC2 0xEF a) && ((not (eqb a 0xE0) || leb 0xA0 b) && (not (eqb a 0xED) || leb b 0x9F))

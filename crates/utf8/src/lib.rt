@@ -4,7 +4,7 @@ ghost use mathlib.Core.Bool.{true, _&&_};
 ghost use Prim.Native.Nat.{ℕ, _+_, _%_, _≤_, _<_};
 ghost use lib.ListN.{length, getD, drop};
 ghost use Rattle.rules.specs.Utf8.{within, utf8Tail, utf8Three, utf8Four, wellFormed, codeOf, validLength};
-ghost use Rattle.utf8.specs.Units.{unitAt, unitCode, unitLen, Passes, afterTail};
+ghost use Rattle.utf8.specs.Units.{unitAt, unitCode, unitLen, Passes, afterTail, afterTails, takesTail};
 
 pub enum Unit {
     Char { code: u32, len: usize },
@@ -274,6 +274,65 @@ fn pairs_end(s: &[u8], j: usize) -> usize
     if is_tail(byte_at(s, k)) { k + 1 } else { k }
 }
 
+// Whether a tail, as `b` is, may come after `a`: a tail, or what begins two bytes or three. E0 and ED bound the second.
+fn takes_tail(a: u8, b: u8) -> bool
+    ensures { λ r. ⌜ r ≡ takesTail a b ⌝ }
+{
+    (is_tail(a) | ((0xC2 <= a) & (a <= 0xEF)))
+        & (((a != 0xE0) | (0xA0 <= b)) & ((a != 0xED) | (b <= 0x9F)))
+}
+
+// The byte at i may stand before the two after it, where no character is longer than three bytes. No test is a jump, so that 16 become one.
+fn triple_at(s: &[u8], i: usize) -> bool
+    requires { ⌜ i + 2 < length (now s) ⌝ }
+    ensures { λ r. ⌜ (r ≡ true → Passes (now (s .entry)) (afterTails (now (s .entry)) i) (afterTails (now (s .entry)) (i + 1))) ⌝ }
+{
+    let a = s[i];
+    let b = s[i + 1];
+    let tail = is_tail(b);
+    let more = is_tail(s[i + 2]);
+    let three = (0xE0 <= a) & (a <= 0xEF);
+    (!tail & (a < 0xC0)) | (tail & (takes_tail(a, b) & (more == three)))
+}
+
+fn triples16(s: &[u8], i: usize) -> bool
+    requires { ⌜ i + 17 < length (now s) ⌝ }
+    ensures { λ r. ⌜ (r ≡ true → Passes (now (s .entry)) (afterTails (now (s .entry)) i) (afterTails (now (s .entry)) (i + 16))) ⌝ }
+{
+    let mut all = true;
+    let mut k = i;
+    while k < i + 16 {
+        all = all & triple_at(s, k);
+        k += 1;
+    }
+    all
+}
+
+// Past characters of up to three bytes from j on, likewise.
+fn triples_end(s: &[u8], j: usize) -> usize
+    requires { ⌜ j ≤ length (now s) ⌝ }
+    ensures { λ r. ⌜ Passes (now (s .entry)) j r ⌝ }
+{
+    if is_tail(byte_at(s, j)) {
+        return j;
+    }
+    let mut k = j;
+    while s.len() - k >= 64 {
+        if ascii64(s, k) | !triples16(s, k) {
+            break;
+        }
+        k += 16;
+    }
+    if is_tail(byte_at(s, k)) {
+        return if is_tail(byte_at(s, k + 1)) {
+            k + 2
+        } else {
+            k + 1
+        };
+    }
+    k
+}
+
 // The length of the longest prefix of well-formed characters.
 pub fn valid_length(s: &[u8]) -> usize
     ensures { λ r. ⌜ r ≡ validLength (now (s .entry)) ⌝ }
@@ -287,7 +346,11 @@ pub fn valid_length(s: &[u8]) -> usize
             if n == 0 {
                 return j;
             }
-            j = if n == 2 { pairs_end(s, j + n) } else { j + n };
+            j = match n {
+                2 => pairs_end(s, j + n),
+                3 => triples_end(s, j + n),
+                _ => j + n,
+            };
         }
     }
     j

@@ -50,7 +50,13 @@ loop-again-2 : tie.Need-loop-again-2 Inv-loop μ-loop
 loop-again-2 c = pass-on _ _ _ _ (goes (c .before .before)) (c .pairs-end .ensures)
 
 loop-less-3 : tie.Need-loop-less-3 Inv-loop μ-loop
-loop-less-3 c = omega (arith, goes (c .before) .upto, c .before .if2 .left)
+loop-less-3 c = omega (arith, c .before .before .if2 .left, c .triples-end .ensures .from)
+
+loop-again-3 : tie.Need-loop-again-3 Inv-loop μ-loop
+loop-again-3 c = pass-on _ _ _ _ (goes (c .before .before)) (c .triples-end .ensures)
+
+loop-less-4 : tie.Need-loop-less-4 Inv-loop μ-loop
+loop-less-4 c = omega (arith, goes (c .before) .upto, c .before .if2 .left)
 
 returns-2 : tie.Need-returns-2 Inv-loop μ-loop
 returns-2 c = pass-end _ _ (c .before .loop .inv) (c .loop-test .left)
@@ -72,8 +78,12 @@ valid-length-spec =
     (λ c. omega (arith, goes (c .before) .upto))
     (λ c κs. goes (c .before) .upto)
     (λ c. omega (arith, goes (c .before) .upto))
+    (λ c κs. goes (c .before) .upto)
+    (λ c. omega (arith, goes (c .before) .upto))
     loop-less-2
     loop-again-2
     loop-less-3
+    loop-again-3
+    loop-less-4
     (λ c. goes (c .before))
     returns-2)

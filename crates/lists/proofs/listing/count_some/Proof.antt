@@ -53,10 +53,12 @@ settled n =
     let t = j .before in
     let is : Next → Type 0 = Taken (s t) (i t) (j .if1 .base) in
     ⊎-elim
-    (λ w. subst is (sym (w .9)) (w .2 .ensures (s t) (i t) (st t .pre .0) (inside t .1) (w .1 .ensures) (lefts j)))
+    (λ w. subst is (sym (w .10)) (w .2 .ensures (s t) (i t) (st t .pre .0) (inside t .1) (w .1 .ensures) (lefts j)))
+    (⊎-elim
+    (λ w. subst is (sym (w .10)) (w .2 .ensures (s t) (i t) (st t .pre .0) (inside t .1) (w .1 .ensures) (lefts j)))
     (⊎-elim
     (λ w. subst is (sym (w .9)) (w .2 .ensures (s t) (i t) (st t .pre .0) (inside t .1) (w .1 .ensures) (lefts j)))
-    (λ w. subst is (sym (w .4)) (n .before .before .plain .ensures (w .0 .left))))
+    (λ w. subst is (sym (w .4)) (n .before .before .plain .ensures (w .0 .left)))))
     (n .if2 .came)
 
 -- where the walk stops then
@@ -65,8 +67,8 @@ spared n =
     let t = n .before .before .before .before .before in
     let g = goes t .spared in
     ⊎-elim
-    (λ w. rw (w .6) (omega arith, λ l. absurd (omega arith)))
-    (⊎-elim (λ w. rw (w .6, w .7) (g .0, λ l. omega (arith, w .5 .left))) (λ w. rw (w .1, w .2) g))
+    (λ w. rw (w .7) (omega arith, λ l. absurd (omega arith)))
+    (⊎-elim (λ w. rw (w .7, w .8) (g .0, λ l. omega (arith, w .6 .left))) (⊎-elim (λ w. rw (w .6, w .7) g) (λ w. rw (w .1, w .2) g)))
     (n .if2 .came)
 
 module _ (n : tie.Joined2 Inv-loop μ-loop) where
@@ -81,12 +83,12 @@ module _ (n : tie.Joined2 Inv-loop μ-loop) where
   on = let t = n .before .before .before .before .before in goes-on (s t) _ _ _ _ _ _ (i t) (goes t) (st t .pre .1) (t .loop-test .taken) (n .before .before .before .before .if1 .base) (n .if2 .token) (settled n) _ _ (spared n)
 
 -- a token that is counted is the first of those left
-counted : (c : tie.Then4 Inv-loop μ-loop) → let n = c .before .before in let t = n .before .before .before .before .before in let a = st t .args in
+counted : (c : tie.Then5 Inv-loop μ-loop) → let n = c .before .before in let t = n .before .before .before .before .before in let a = st t .args in
     length (chosen (a .choice) (s t) (i t)) ≡ suc (length (chosen (a .choice) (s t) (r n .end)))
 counted c =
     let n = c .before .before in
     let t = n .before .before .before .before .before in
-    ap length (chosen-keep (st t .args .choice) (s t) (i t) (r n) (settled n .0) (st t .pre .1) (inside t .0) (sym (c .before .keeps .ensures) ∙ c .if4 .taken))
+    ap length (chosen-keep (st t .args .choice) (s t) (i t) (r n) (settled n .0) (st t .pre .1) (inside t .0) (sym (c .before .keeps .ensures) ∙ c .if5 .taken))
 
 loop-again : tie.Need-loop-again Inv-loop μ-loop
 loop-again c =
@@ -99,7 +101,7 @@ loop-again-2 c =
     let n = c .before .before in
     let t = n .before .before .before .before .before in
     let v = n .before .before .before .before .before .before .loop .inv in
-    let d = chosen-drop (st t .args .choice) (s t) (i t) (r n) (settled n .0) (st t .pre .1) (inside t .0) (sym (c .before .keeps .ensures) ∙ c .if4 .left) in
+    let d = chosen-drop (st t .args .choice) (s t) (i t) (r n) (settled n .0) (st t .pre .1) (inside t .0) (sym (c .before .keeps .ensures) ∙ c .if5 .left) in
     (on n, omega (arith, moves n, v .1), omega (arith, ap length d, v .2))
 
 returns : tie.Need-returns Inv-loop μ-loop
@@ -125,7 +127,7 @@ count-some-spec =
     (λ c κs. search needs)
     (λ c κs. let j = c .before .before .before .before .before .before in let t = j .before in let m = c .taken .ensures (s t) (i t) (st t .pre .0) (inside t .1) (c .before .read .ensures) (lefts j) in omega (arith, goes-moves (s t) _ _ _ _ _ _ (i t) (goes t) (st t .pre .1) (t .loop-test .taken) _ _ m))
     (λ c κs. search needs)
-    (λ c. let t = c .before .before .before .before .before .before .before .before .before in omega (arith, c .wasted-by .ensures .1, st t .pre .0, goes-spared (s t) _ _ _ _ _ _ (i t) (goes t) (st t .pre .1) (t .loop-test .taken)))
+    (λ c. let t = c .before .before .before .before .before .before .before .before .before .before in omega (arith, c .before .wasted-by .ensures .1, st t .pre .0, goes-spared (s t) _ _ _ _ _ _ (i t) (goes t) (st t .pre .1) (t .loop-test .taken)))
     (λ c κs. search needs)
     (λ c. let n = c .before .before in omega (arith, n .before .before .before .before .before .before .loop .inv .1, moves n, st (n .before .before .before .before .before) .pre .0))
     (λ c. omega (arith, moves (c .before .before)))

@@ -57,10 +57,12 @@ settled n =
     let t = j .before in
     let is : Next → Type 0 = Taken (s t) (i t) (j .if1 .base) in
     ⊎-elim
-    (λ w. subst is (sym (w .9)) (w .2 .ensures (s t) (i t) (st t .pre .0) (inside t .1) (w .1 .ensures) (lefts j)))
+    (λ w. subst is (sym (w .10)) (w .2 .ensures (s t) (i t) (st t .pre .0) (inside t .1) (w .1 .ensures) (lefts j)))
+    (⊎-elim
+    (λ w. subst is (sym (w .10)) (w .2 .ensures (s t) (i t) (st t .pre .0) (inside t .1) (w .1 .ensures) (lefts j)))
     (⊎-elim
     (λ w. subst is (sym (w .9)) (w .2 .ensures (s t) (i t) (st t .pre .0) (inside t .1) (w .1 .ensures) (lefts j)))
-    (λ w. subst is (sym (w .4)) (n .before .before .plain .ensures (w .0 .left))))
+    (λ w. subst is (sym (w .4)) (n .before .before .plain .ensures (w .0 .left)))))
     (n .if2 .came)
 
 -- where the walk stops then
@@ -69,8 +71,8 @@ spared n =
     let t = n .before .before .before .before .before in
     let g = goes t .spared in
     ⊎-elim
-    (λ w. rw (w .6) (omega arith, λ l. absurd (omega arith)))
-    (⊎-elim (λ w. rw (w .6, w .7) (g .0, λ l. omega (arith, w .5 .left))) (λ w. rw (w .1, w .2) g))
+    (λ w. rw (w .7) (omega arith, λ l. absurd (omega arith)))
+    (⊎-elim (λ w. rw (w .7, w .8) (g .0, λ l. omega (arith, w .6 .left))) (⊎-elim (λ w. rw (w .6, w .7) g) (λ w. rw (w .1, w .2) g)))
     (n .if2 .came)
 
 module _ (n : tie.Joined2 Inv-loop μ-loop) where
@@ -85,16 +87,16 @@ module _ (n : tie.Joined2 Inv-loop μ-loop) where
   on = let t = n .before .before .before .before .before in goes-on (s t) _ _ _ _ _ _ (i t) (goes t) (st t .pre .1) (t .loop-test .taken) (n .before .before .before .before .if1 .base) (n .if2 .token) (settled n) _ _ (spared n)
 
 -- a token that is kept is the first of those left
-kept : (c : tie.Then4 Inv-loop μ-loop) → let n = c .before .before in let t = n .before .before .before .before .before in let a = st t .args in
+kept : (c : tie.Then5 Inv-loop μ-loop) → let n = c .before .before in let t = n .before .before .before .before .before in let a = st t .args in
     Packs (now (a .list)) (a .from .bytes) (chosen (a .choice) (s t) (a .from .cursor)) (n .before .before .before .before .before .before .loop .list) (n .before .before .before .before .before .before .loop .bytes) (token (r n .kind) (i t) (r n .end) ∷ chosen (a .choice) (s t) (r n .end))
 kept c =
     let n = c .before .before in
     let t = n .before .before .before .before .before in
     subst (Packs _ _ _ _ _)
-    (chosen-keep (st t .args .choice) (s t) (i t) (r n) (settled n .0) (st t .pre .1) (inside t .0) (sym (c .before .keeps .ensures) ∙ c .if4 .taken))
+    (chosen-keep (st t .args .choice) (s t) (i t) (r n) (settled n .0) (st t .pre .1) (inside t .0) (sym (c .before .keeps .ensures) ∙ c .if5 .taken))
     (n .before .before .before .before .before .before .loop .inv .1)
 
-room : (c : tie.Then4 Inv-loop μ-loop) → let l = c .before .before .before .before .before .before .before .before in l .loop .bytes + tokenBytes ≤ length (l .loop .list)
+room : (c : tie.Then5 Inv-loop μ-loop) → let l = c .before .before .before .before .before .before .before .before in l .loop .bytes + tokenBytes ≤ length (l .loop .list)
 room c = packs-room _ _ _ _ _ _ _ (kept c) (st (c .before .before .before .before .before .before .before) .pre .3)
 
 loop-again : tie.Need-loop-again Inv-loop μ-loop
@@ -109,7 +111,7 @@ loop-again-2 c =
     let t = n .before .before .before .before .before in (
       on n,
       subst (Packs _ _ _ _ _)
-          (chosen-drop (st t .args .choice) (s t) (i t) (r n) (settled n .0) (st t .pre .1) (inside t .0) (sym (c .before .keeps .ensures) ∙ c .if4 .left))
+          (chosen-drop (st t .args .choice) (s t) (i t) (r n) (settled n .0) (st t .pre .1) (inside t .0) (sym (c .before .keeps .ensures) ∙ c .if5 .left))
           (n .before .before .before .before .before .before .loop .inv .1),
     )
 
@@ -135,7 +137,7 @@ fill-some-spec =
     (λ c κs. search needs)
     (λ c κs. let j = c .before .before .before .before .before .before in let t = j .before in let m = c .taken .ensures (s t) (i t) (st t .pre .0) (inside t .1) (c .before .read .ensures) (lefts j) in omega (arith, goes-moves (s t) _ _ _ _ _ _ (i t) (goes t) (st t .pre .1) (t .loop-test .taken) _ _ m))
     (λ c κs. search needs)
-    (λ c. let t = c .before .before .before .before .before .before .before .before .before in omega (arith, c .wasted-by .ensures .1, st t .pre .0, goes-spared (s t) _ _ _ _ _ _ (i t) (goes t) (st t .pre .1) (t .loop-test .taken)))
+    (λ c. let t = c .before .before .before .before .before .before .before .before .before .before in omega (arith, c .before .wasted-by .ensures .1, st t .pre .0, goes-spared (s t) _ _ _ _ _ _ (i t) (goes t) (st t .pre .1) (t .loop-test .taken)))
     (λ c κs. search needs)
     (λ c. let n = c .before .before .before in omega (arith, moves n, st (n .before .before .before .before .before) .pre .0))
     (λ c. let n = c .before .before .before in omega (arith, moves n, st (n .before .before .before .before .before) .pre .0))
