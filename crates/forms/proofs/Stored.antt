@@ -1,24 +1,21 @@
 -- Records that are stored from the front on.
 --     over i ts out    out, with the first i of ts over its first i: what a loop that stores ts has made of out after i turns
 -- Assumes nothing.
-use mathlib.Core.Path.{_≡_, refl, sym, _∙_, ap}
-use Prim.Native.Nat.{ℕ, zero, suc, _-_, _<_, _≤_}
-use native.Mathlib.Decide.{decLt}
+use mathlib.Core.Path.{_≡_, refl, sym, _∙_, ap, subst}
+use Prim.Native.Nat.{ℕ, zero, suc, _<_, _≤_}
 use native.Mathlib.Nat.{not-suc-le-zero, le-of-suc-le-suc}
 use native.Mathlib.Omega.{arith}
+use mathlib.Core.Bool.{Bool, true, false, cond}
 use mathlib.Core.List.{List, [], _∷_, _++_}
 use lib.ListN.{length, getD, set, drop, length-drop}
 use Rattle.rules.specs.Tokens.{Token as Tok}
-use Rattle.rules.specs.Records.{outcome}
-use Rattle.rules.specs.declared.answer.Answer.{Answer}
+use Rattle.rules.specs.Records.{Outcome, outcome}
 use Rattle.lexer.specs.declared.token.Token.{Token}
 use Rattle.lists.specs.declared.listing.Plan.{Plan}
-use Rattle.lists.specs.declared.listing.Plan.the-variants.{Refused, TooLong, List as Listing}
-use Rattle.lists.specs.declared.picks.Picked.{Picked}
-use Rattle.lists.specs.Plans.{planOf, storedBy}
-use Rattle.lists.specs.Picks.{Answered, recordsOf, recordsFrom}
+use Rattle.lists.specs.declared.picks.Picking.{Picking}
+use Rattle.lists.specs.Plans.{planOf}
+use Rattle.lists.specs.Picks.{Fits, Ready, Picks, answerBy, recordsOf, recordsFrom}
 use Rattle.forms.specs.Records.{recorded, recordsBy}
-use Rattle.forms.proofs.Outcomes.{listOf, stores, none}
 
 module _ {A : Type 0} where
   pub over : ℕ → List A → List A → List A
@@ -66,50 +63,66 @@ records-length : (ts : List Tok) → length (recordsOf ts) ≡ length ts
 records-length [] = refl
 records-length (t ∷ ts) = ap suc (records-length ts)
 
--- From the first cursor on a plan's list is left.
-all-left : (plan : Plan) (s : List ℕ) → recordsFrom plan s 0 ≡ recordsOf (listOf (planOf plan s))
-all-left (Refused answer) s = refl
-all-left TooLong s = refl
-all-left (Listing choice) s = refl
+-- what `begin` gave, of a list that fits the slice
+module _ (plan : Plan) (s : List ℕ) (ys : List Token) (begun : Picking) (fits : Fits (begun .plan) s (outcome (planOf plan s) (length ys)) (length ys)) where
+  abbrev pub all : List Token
+  all = recordsFrom (begun .plan) s 0
 
-module _ (plan : Plan) (s : List ℕ) (ys : List Token) (answer : Answer) (is : Answered answer (outcome (planOf plan s) (length ys))) where
-  -- how many there are where any is stored, and that they have room
-  whole : 0 < storedBy answer → (storedBy answer ≡ length (recordsFrom plan s 0)) × (storedBy answer ≤ length ys)
-  whole h =
-      let p = stores (planOf plan s) (length ys) (omega (arith, is .1)) in
-      let n : storedBy answer ≡ length (listOf (planOf plan s)) = is .1 ∙ ap length (p .0) in
-      let a = ap length (all-left plan s) ∙ records-length (listOf (planOf plan s)) in
-      (omega arith, omega (arith, p .1))
+  abbrev is : Outcome
+  is = outcome (planOf plan s) (length ys)
 
-  -- a turn, after i of them, where those from the cursor on are left
-  module _ (i cursor : ℕ) (here : recordsFrom plan s cursor ≡ drop i (recordsFrom plan s 0)) (more : i < storedBy answer) where
-    pub turn-room : i < length ys
-    turn-room = omega (arith, whole (omega arith), more)
+  all-length : length all ≡ length (is .tokens)
+  all-length = ap length (fits .tokens) ∙ records-length (is .tokens)
 
-    pub turn-some : 0 < length (recordsFrom plan s cursor)
-    turn-some = let h = ap length here ∙ length-drop i (recordsFrom plan s 0) in omega (arith, whole (omega arith), more)
+  pub has-room : length all ≤ length ys
+  has-room = omega (arith, all-length, fits .enough)
 
-    module _ (r : Picked) (e : recordsFrom plan s cursor ≡ r .token ∷ recordsFrom plan s (r .cursor)) where
-      pub turn-left : recordsFrom plan s (r .cursor) ≡ drop (suc i) (recordsFrom plan s 0)
-      turn-left = sym (drop-next i (recordsFrom plan s 0) (r .token) (recordsFrom plan s (r .cursor)) (sym here ∙ e))
+  -- after i turns
+  pub record Reached (i : ℕ) (at : Picking) (lone : List ℕ) : Type 0 where
+    pub same-plan : at .plan ≡ begun .plan
+    pub here : recordsFrom (begun .plan) s (at .cursor) ≡ drop i all
+    pub ready : Ready s at lone
 
-      pub turn-set : set (over i (recordsFrom plan s 0) ys) i (r .token) ≡ over (suc i) (recordsFrom plan s 0) ys
-      turn-set = over-set i (recordsFrom plan s 0) ys (r .token) (recordsFrom plan s (r .cursor)) (sym here ∙ e)
+  pub reached-first : (lone : List ℕ) → begun .cursor ≡ 0 → Ready s begun lone → Reached 0 begun lone
+  reached-first lone c m = record { same-plan = refl; here = ap (recordsFrom (begun .plan) s) c; ready = m }
+
+  -- a turn
+  module _ (i : ℕ) (at : Picking) (lone : List ℕ) (h : Reached i at lone) (r : Picking) (lone′ : List ℕ) (p : Picks s at r lone′ (recordsFrom (at .plan) s)) where
+    left : drop i all ≡ cond (r .found) (r .token ∷ recordsFrom (begun .plan) s (r .cursor)) []
+    left = sym (h .here) ∙ subst (λ (q : Plan). recordsFrom q s (at .cursor) ≡ cond (r .found) (r .token ∷ recordsFrom q s (r .cursor)) []) (h .same-plan) (p .first)
+
+    pub turn-found : i < length all → r .found ≡ true
+    turn-found l = go (r .found) left
+      where
+        go : (b : Bool) → drop i all ≡ cond b (r .token ∷ recordsFrom (begun .plan) s (r .cursor)) [] → b ≡ true
+        go true e = refl
+        go false e = absurd (omega (arith, ap length e, length-drop i all))
+
+    pub turn-none : length all ≤ i → r .found ≡ false
+    turn-none l = go (r .found) left
+      where
+        go : (b : Bool) → drop i all ≡ cond b (r .token ∷ recordsFrom (begun .plan) s (r .cursor)) [] → b ≡ false
+        go false e = refl
+        go true e = absurd (omega (arith, ap length e, length-drop i all))
+
+    next : i < length all → drop i all ≡ r .token ∷ recordsFrom (begun .plan) s (r .cursor)
+    next l = left ∙ ap (λ (b : Bool). cond b (r .token ∷ recordsFrom (begun .plan) s (r .cursor)) []) (turn-found l)
+
+    pub turn-plan : r .plan ≡ begun .plan
+    turn-plan = p .plan ∙ h .same-plan
+
+    pub turn-reached : i < length all → Reached (suc i) r lone′
+    turn-reached l = record { same-plan = turn-plan; here = sym (drop-next i all (r .token) (recordsFrom (begun .plan) s (r .cursor)) (next l)); ready = p .ready }
+
+    pub turn-set : i < length all → set (over i all ys) i (r .token) ≡ over (suc i) all ys
+    turn-set l = over-set i all ys (r .token) (recordsFrom (begun .plan) s (r .cursor)) (next l)
 
   -- when the turns are done, the slice is what the plan gives
-  pub stored-done : recorded answer (over (storedBy answer) (recordsFrom plan s 0) ys) ≡ recordsBy (planOf plan s) ys
-  unfolding over
-  stored-done = λ j. record { number = is .0 .0 j; value = is .0 .1 j; records = content (decLt 0 (storedBy answer)) j }
+  pub stored-done : recorded (answerBy (begun .plan) (length all)) (over (length all) all ys) ≡ recordsBy (planOf plan s) ys
+  stored-done =
+      let n = ap (answerBy (begun .plan)) all-length in
+      let a = fits .answer in
+      ap (λ x. recorded x (over (length all) all ys)) n ∙ (λ j. record { number = a .0 j; value = a .1 j; records = content j })
     where
-      content : Dec (0 < storedBy answer) → over (storedBy answer) (recordsFrom plan s 0) ys ≡ recordsOf (outcome (planOf plan s) (length ys) .tokens) ++ drop (length (outcome (planOf plan s) (length ys) .tokens)) ys
-      content (yes h) =
-          let w = whole h in
-          let p = stores (planOf plan s) (length ys) (omega (arith, is .1)) in
-          ap (λ (k : ℕ). over k (recordsFrom plan s 0) ys) (w .0)
-          ∙ over-all (recordsFrom plan s 0) ys (omega (arith, w))
-          ∙ ap (λ (ts : List Token). ts ++ drop (length ts) ys) (all-left plan s ∙ ap recordsOf (sym (p .0)))
-          ∙ ap (λ (k : ℕ). recordsOf (outcome (planOf plan s) (length ys) .tokens) ++ drop k ys) (records-length (outcome (planOf plan s) (length ys) .tokens))
-      content (no h) =
-          let z : storedBy answer ≡ 0 = omega arith in
-          ap (λ (k : ℕ). over k (recordsFrom plan s 0) ys) z
-          ∙ ap (λ (ts : List Tok). recordsOf ts ++ drop (length ts) ys) (sym (none (outcome (planOf plan s) (length ys) .tokens) (omega (arith, is .1))))
+      content : over (length all) all ys ≡ recordsOf (is .tokens) ++ drop (length (is .tokens)) ys
+      content = over-all all ys has-room ∙ ap (λ (ts : List Token). ts ++ drop (length all) ys) (fits .tokens) ∙ ap (λ (k : ℕ). recordsOf (is .tokens) ++ drop k ys) all-length

@@ -4,9 +4,10 @@ use lists::listing::Plan;
 use lists::listing::Settings;
 use lists::listing::plan_up_to;
 use lists::listing::plan_whole;
-use lists::picks::answer_in;
+use lists::picks::answer_by;
+use lists::picks::begin;
+use lists::picks::no_bits;
 use lists::picks::pick;
-use lists::picks::stored_by;
 use rules::answer::Answer;
 ghost use mathlib.Core.Path.{_≡_};
 ghost use Rattle.lists.specs.Plans.{planOf, Follows};
@@ -17,17 +18,18 @@ pub fn store_records(text: &[u8], plan: Plan, list: &mut [Token]) -> Answer
     requires { ⌜ Follows plan (now text) ⌝ }
     ensures { λ r. ⌜ recorded r (now (list .exit)) ≡ recordsBy (planOf plan (now (text .entry))) (now (list .entry)) ⌝ }
 {
-    let answer = answer_in(text, plan, list.len());
-    let stop = stored_by(answer);
+    let mut lone = no_bits();
+    let mut at = begin(text, plan, list.len());
     let mut i: usize = 0;
-    let mut cursor: usize = 0;
-    while i < stop {
-        let picked = pick(text, plan, cursor);
-        list[i] = picked.token;
-        cursor = picked.cursor;
+    loop {
+        at = pick(text, at, &mut lone);
+        if !at.found {
+            break;
+        }
+        list[i] = at.token;
         i += 1;
     }
-    answer
+    answer_by(at, i)
 }
 
 // The whole listing.

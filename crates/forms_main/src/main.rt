@@ -110,6 +110,16 @@ fn compare(text: &[u8]) {
     print_number(differences, b" differences\n");
 }
 
+// A tag for each letter, which nothing closes, and a long word: after thirteen searches in vain it pays to look ahead.
+fn tags() -> [u8; 10000] {
+    let mut text = [b'x'; 10000];
+    for i in 0..26u8 {
+        text[i as usize * 2] = b'$';
+        text[i as usize * 2 + 1] = b'A' + i;
+    }
+    text
+}
+
 fn main() {
     compare(b"");
     compare(b"x.1 <='\xC3\xA9'");
@@ -119,4 +129,5 @@ fn main() {
     compare(b"a b c d e f g h i j k l m n o p q r s t u v w x y z a b c d e f ");
     compare(b"a b c d e f g h i j k l m n o p q r s t u v w x y z a b c d e f g");
     compare(b"a\xC0\x80");
+    compare(&tags());
 }

@@ -179,7 +179,7 @@ pub fn count(text: &[u8], choice: Choice) -> usize
 }
 
 // The list's length, or more where it fits all the same: a token has at least one byte, so with room for a token a byte nothing is counted.
-fn needed(text: &[u8], choice: Choice, room: usize) -> usize
+pub fn needed(text: &[u8], choice: Choice, room: usize) -> usize
     requires { ⌜ (length (now text) ≤ maxQuerySize) × (choice .position ≤ length (now text)) ⌝ }
     ensures { λ r. ⌜ (let n = length (chosen choice (now (text .entry)) 0) in (n ≤ r) × (room < r → r ≡ n)) ⌝ }
 {

@@ -1,31 +1,43 @@
-// A planned list token by token, for what is not packed: first what is answered, then each token from a cursor on.
+// A planned list token by token, for what is not packed.
 use crate::listing::Choice;
 use crate::listing::Plan;
 use crate::listing::count;
+use crate::listing::needed;
+use ahead::LOOK_AFTER;
+use ahead::look_ahead;
+use ahead::wasted_by;
+use edges::read;
 use lexer::syntax_kind::SyntaxKind;
 use lexer::token::Token;
 use lexer::token::end_of;
 use lexer::token::kind_of;
-use lexer::tokenizer::next_token;
 use rules::answer::Answer;
 ghost use mathlib.Core.Path.{_≡_};
-ghost use mathlib.Core.Bool.{cond};
-ghost use mathlib.Core.List.{_∷_};
-ghost use Prim.Native.Nat.{_≤_, _<_};
+ghost use mathlib.Core.Bool.{cond, false};
+ghost use mathlib.Core.List.{List};
+ghost use Prim.Native.Nat.{ℕ, _≤_, _<_};
 ghost use lib.ListN.{length, drop};
 ghost use lib.Dec.{ltb};
 ghost use Rattle.rules.specs.Limits.{maxQuerySize};
 ghost use Rattle.rules.specs.Answers.{tooLongList};
 ghost use Rattle.rules.specs.Records.{outcome};
 ghost use Rattle.rules.specs.declared.answer.Answer.the-variants.{NoRoom};
+ghost use Rattle.ahead.specs.Marks.{lookAfter};
+ghost use Rattle.lists.specs.declared.listing.Plan.the-variants.{Refused};
+ghost use Rattle.lists.specs.declared.picks.Picking.{Picking};
 ghost use Rattle.lists.specs.Choices.{chosen};
 ghost use Rattle.lists.specs.Plans.{planOf, storedBy, Follows};
-ghost use Rattle.lists.specs.Picks.{Answered, recordsFrom, recordsOf};
+ghost use Rattle.lists.specs.Picks.{Answered, Fits, Ready, ReadOn, Picks, answerBy, recordsFrom, recordsOf};
 
-// A token of a list, and the cursor of the next one.
-pub struct Picked {
+// How far a list is picked: by which plan, whether there was one more token and which, and from where on the next one is looked for. `until` and
+// `wasted` are of the looks ahead.
+pub struct Picking {
+    pub plan: Plan,
+    pub found: bool,
     pub token: Token,
     pub cursor: usize,
+    pub until: usize,
+    pub wasted: usize,
 }
 
 fn in_room(needed: usize, room: usize, answer: Answer) -> Answer
@@ -67,58 +79,166 @@ pub fn stored_by(answer: Answer) -> usize
     }
 }
 
-// The first token that is kept from a cursor on, where there is one.
-fn pick_chosen(text: &[u8], choice: Choice, cursor: usize) -> Picked
-    requires { ⌜ (length (now text) ≤ maxQuerySize) × (choice .position ≤ length (now text)) × (0 < length (chosen choice (now text) cursor)) ⌝ }
-    ensures { λ r. ⌜ recordsOf (chosen choice (now (text .entry)) cursor) ≡ r .token ∷ recordsOf (chosen choice (now (text .entry)) (r .cursor)) ⌝ }
+// The plan, or its refusal where the room is too small.
+fn fitted(plan: Plan, tokens: usize, room: usize) -> Plan
+    ensures { λ r. ⌜ r ≡ cond (ltb room tokens) (Refused (NoRoom tokens)) plan ⌝ }
 {
-    let mut start = cursor;
-    loop {
-        let found = next_token(&text[0..], start);
-        let kind = kind_of(found);
-        let end = end_of(found);
-        if choice.keeps(kind) {
-            return Picked {
-                token: Token {
-                    kind,
-                    start: start as u32,
-                    end: end as u32,
-                },
-                cursor: end,
-            };
+    if room < tokens {
+        return Plan::Refused(Answer::NoRoom(tokens));
+    }
+    plan
+}
+
+// The same for each plan. A text is lexed here only where the room is not a token a byte.
+fn fit(text: &[u8], plan: Plan, room: usize) -> Plan
+    requires { ⌜ Follows plan (now text) ⌝ }
+    ensures { λ r. ⌜ Fits r (now (text .entry)) (outcome (planOf plan (now (text .entry))) room) room ⌝ }
+{
+    match plan {
+        Plan::Refused(_) => plan,
+        Plan::TooLong => fitted(plan, 2, room),
+        Plan::List(choice) => {
+            let n = needed(text, choice, room);
+            fitted(plan, n, room)
         }
-        start = end;
     }
 }
 
-// The two tokens of a text that is too long: the cursor counts them.
-fn pick_too_long(cursor: usize) -> Picked
-    requires { ⌜ cursor < 2 ⌝ }
-    ensures { λ r. ⌜ recordsOf (drop cursor tooLongList) ≡ r .token ∷ recordsOf (drop (r .cursor) tooLongList) ⌝ }
+// Before the first token of a list for which there is room.
+pub fn begin(text: &[u8], plan: Plan, room: usize) -> Picking
+    requires { ⌜ Follows plan (now text) ⌝ }
+    ensures { λ r. ⌜ Fits (r .plan) (now (text .entry)) (outcome (planOf plan (now (text .entry))) room) room × (r .cursor ≡ 0) × (r .until ≡ 0) ⌝ }
 {
-    let kind = if cursor == 0 {
+    let plan = fit(text, plan, room);
+    Picking {
+        plan,
+        found: false,
+        token: Token {
+            kind: 0,
+            start: 0,
+            end: 0,
+        },
+        cursor: 0,
+        until: 0,
+        wasted: 0,
+    }
+}
+
+// What is answered where so many tokens are stored.
+pub fn answer_by(picking: Picking, tokens: usize) -> Answer
+    ensures { λ r. ⌜ r ≡ answerBy (picking .plan) tokens ⌝ }
+{
+    let plan = picking.plan;
+    match plan {
+        Plan::Refused(answer) => answer,
+        Plan::TooLong => Answer::TooLong(tokens),
+        Plan::List(_) => Answer::Done(tokens),
+    }
+}
+
+// Bits that mark nothing: a window of 131,072 bytes. `listing` has twice as many, on a path that few texts take; these are made at every call.
+pub fn no_bits() -> [u64; 2048]
+    ensures { λ r. ⌜ ((s : List ℕ) (at : Picking) → at .until ≡ 0 → Ready s at r) ⌝ }
+{
+    [0; 2048]
+}
+
+// Looks ahead from the cursor on, where that pays.
+fn looked(text: &[u8], from: Picking, lone: &mut [u64]) -> Picking
+    requires { ⌜ (length (now text) ≤ maxQuerySize) × (from .cursor ≤ length (now text)) × Ready (now text) from (now lone) ⌝ }
+    ensures { λ r. ⌜ (r .plan ≡ from .plan) × (r .cursor ≡ from .cursor) × (r .wasted < lookAfter) × Ready (now (text .entry)) r (now (lone .exit)) ⌝ }
+{
+    if from.wasted < LOOK_AFTER {
+        return from;
+    }
+    let mut at = from;
+    at.until = look_ahead(text, from.cursor, lone);
+    at.wasted = 0;
+    at
+}
+
+// The token at the cursor, kept or not.
+fn read_on(text: &[u8], from: Picking, lone: &mut [u64]) -> Picking
+    requires { ⌜ (length (now text) ≤ maxQuerySize) × (from .cursor < length (now text)) × Ready (now text) from (now lone) ⌝ }
+    ensures { λ r. ⌜ ReadOn (now (text .entry)) from r (now (lone .exit)) ⌝ }
+{
+    let at = looked(text, from, lone);
+    let plan = at.plan;
+    let lexed = read(text, at.cursor, at.until, lone);
+    let cursor = end_of(lexed);
+    Picking {
+        plan,
+        found: true,
+        token: Token {
+            kind: kind_of(lexed) % 64,
+            start: at.cursor as u32,
+            end: cursor as u32,
+        },
+        cursor,
+        until: at.until,
+        wasted: at.wasted + wasted_by(lexed, text.len()),
+    }
+}
+
+fn ended(from: Picking) -> Picking
+    ensures { λ r. ⌜ (r .plan ≡ from .plan) × (r .found ≡ false) × (r .cursor ≡ from .cursor) × (r .until ≡ from .until) ⌝ }
+{
+    let mut at = from;
+    at.found = false;
+    at
+}
+
+// The first token that is kept from the cursor on.
+fn pick_chosen(text: &[u8], choice: Choice, from: Picking, lone: &mut [u64]) -> Picking
+    requires { ⌜ (length (now text) ≤ maxQuerySize) × (choice .position ≤ length (now text)) × Ready (now text) from (now lone) ⌝ }
+    ensures { λ r. ⌜ Picks (now (text .entry)) from r (now (lone .exit)) (λ cursor. recordsOf (chosen choice (now (text .entry)) cursor)) ⌝ }
+{
+    let mut at = from;
+    while at.cursor < choice.position {
+        at = read_on(text, at, lone);
+        if choice.keeps(at.token.kind) {
+            return at;
+        }
+    }
+    ended(at)
+}
+
+// The two tokens of a text that is too long: the cursor counts them.
+fn pick_too_long(from: Picking) -> Picking
+    ensures { λ r. ⌜ ((s lone : List ℕ) → Ready s from lone → Picks s from r lone (λ cursor. recordsOf (drop cursor tooLongList))) ⌝ }
+{
+    if from.cursor >= 2 {
+        return ended(from);
+    }
+    let plan = from.plan;
+    let kind = if from.cursor == 0 {
         SyntaxKind::ErrorMaxQuerySizeExceeded
     } else {
         SyntaxKind::EndOfStream
     };
-    Picked {
+    Picking {
+        plan,
+        found: true,
         token: Token {
             kind,
             start: 0,
             end: 0,
         },
-        cursor: cursor + 1,
+        cursor: from.cursor + 1,
+        until: from.until,
+        wasted: from.wasted,
     }
 }
 
-// The token of a plan's list at a cursor. The first cursor is 0.
-pub fn pick(text: &[u8], plan: Plan, cursor: usize) -> Picked
-    requires { ⌜ Follows plan (now text) × (0 < length (recordsFrom plan (now text) cursor)) ⌝ }
-    ensures { λ r. ⌜ recordsFrom plan (now (text .entry)) cursor ≡ r .token ∷ recordsFrom plan (now (text .entry)) (r .cursor) ⌝ }
+// The next token of the list, if there is one.
+pub fn pick(text: &[u8], from: Picking, lone: &mut [u64]) -> Picking
+    requires { ⌜ Follows (from .plan) (now text) × Ready (now text) from (now lone) ⌝ }
+    ensures { λ r. ⌜ Picks (now (text .entry)) from r (now (lone .exit)) (recordsFrom (from .plan) (now (text .entry))) ⌝ }
 {
+    let plan = from.plan;
     match plan {
-        Plan::Refused(_) => pick_too_long(1),
-        Plan::TooLong => pick_too_long(cursor),
-        Plan::List(choice) => pick_chosen(text, choice, cursor),
+        Plan::Refused(_) => ended(from),
+        Plan::TooLong => pick_too_long(from),
+        Plan::List(choice) => pick_chosen(text, choice, from, lone),
     }
 }

@@ -195,6 +195,9 @@ count κs a r s u v p q = (same p q, refl)
 pub answer-in : Determined picks.answer_in.ended picks.answer_in.Reads.Learnt
 answer-in κs a r s u v p q = (one-case r s (same (p .0 .0) (q .0 .0)) (same (p .0 .1) (q .0 .1)), refl)
 
+pub answer-by : Determined picks.answer_by.ended picks.answer_by.Reads.Learnt
+answer-by κs a r s u v p q = (same p q, refl)
+
 pub stored-by : Determined picks.stored_by.ended picks.stored_by.Reads.Learnt
 stored-by κs a r s u v p q = (same p q, refl)
 

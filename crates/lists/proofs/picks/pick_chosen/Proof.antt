@@ -1,70 +1,80 @@
 -- `lists::picks::pick_chosen` meets its contract. The invariant: what is left from here is what was left from the cursor. The measure is what is left of the text.
 -- Assumes nothing.
 use Prim.Native.Nat.{ℕ, _-_, _≤_, _<_}
-use mathlib.Core.Path.{_≡_, refl, sym, ap, ap₂, subst, _∙_}
+use mathlib.Core.Path.{_≡_, refl, sym, ap, _∙_}
 use mathlib.Core.List.{List}
 use denote.Ref.{now}
-use lib.ListN.{length, drop}
+use lib.ListN.{length}
 use native.Mathlib.Omega.{arith}
 use borrow.Author.Needs.{needs}
-use Rattle.rules.specs.Tokens.{Token, lexeme, afterDotAt}
 use Rattle.lexer.specs.declared.token.Lexed.{Lexed}
-use Rattle.lexer.specs.Ends.{endsAt, joined}
-use Rattle.lexer.proofs.Ends.{next-lies, split, sliced-token}
+use Rattle.lists.specs.declared.picks.Picking.{Picking}
 use Rattle.lists.specs.Choices.{chosen}
-use Rattle.lists.specs.Picks.{recordsOf}
+use Rattle.lists.specs.Picks.{Ready, recordsOf}
 use Rattle.lists.proofs.Choosing.{next-fits, chosen-keep, chosen-drop}
-use Rattle.lists.proofs.Picking.{pick-before}
+use Rattle.lists.proofs.Picking.{pick-none, picks-none, picks-some}
 use Rattle.lists.proofs.picks.pick_chosen.Statement.{statement}
 use Rattle.lists.proofs.picks.pick_chosen.Tie as tie
 
 abbrev Inv-loop : tie.InvT-loop
-Inv-loop text choice cursor start₀ start = chosen choice text start ≡ chosen choice text cursor
+Inv-loop text choice lone₀ at₀ lone at = (at .plan ≡ at₀ .plan) × (chosen choice text (at .cursor) ≡ chosen choice text (at₀ .cursor)) × Ready text at lone × (length lone ≡ length lone₀)
 
 abbrev μ-loop : tie.MeasureT-loop
-μ-loop text choice cursor start₀ start = length text - start
+μ-loop text choice lone₀ at₀ lone at = length text - at .cursor
 
-module _ (c : tie.After-end-of Inv-loop μ-loop) where
+-- a token that was read
+module _ (c : tie.After-read-on Inv-loop μ-loop) where
   abbrev l : tie.At-loop Inv-loop μ-loop
-  l = c .before .before .before .before
+  l = c .before .before .before .before .before
 
   abbrev st : tie.Start Inv-loop μ-loop
-  st = c .before .before .before .before .before .before
+  st = l .before .before .before
 
   abbrev s : List ℕ
   s = now (st .args .text)
 
-  -- a token is left, so the cursor is before the position
-  before : l .loop .start < st .args .choice .position
-  before = pick-before _ _ _ (st .pre .1) (subst (λ (ts : List Token). 0 < length ts) (sym (l .loop .inv)) (st .pre .2))
+  abbrev i : ℕ
+  i = l .loop .at .cursor
+
+  abbrev to : Picking
+  to = c .read-on .result
 
   abbrev r : Lexed
-  r = record { kind = c .before .kind-of .result; end = c .end-of .result }
+  r = record { kind = to .token .kind; end = to .cursor }
 
-  abbrev there : Lexed
-  there = endsAt (l .loop .start) (lexeme (afterDotAt s (l .loop .start)) (drop (l .loop .start) s))
+  before : i < st .args .choice .position
+  before = c .before .before .if1 .taken
 
-  abbrev parts : ℕ → ℕ → Lexed
-  parts k n = record { kind = k; end = n }
-
-  found : r ≡ there
-  found =
-      let f = next-lies s (l .loop .start) there (omega (arith, before, st .pre .1)) refl in
-      let t = split (c .before .before .next-token .result) there (c .before .before .next-token .ensures ∙ ap joined (sliced-token (l .loop .start) s)) (omega (arith, f, st .pre .0)) in
-      ap₂ parts (c .before .kind-of .ensures ∙ t .0) (c .end-of .ensures ∙ t .1)
-
-  moves : (l .loop .start < r .end) × (r .end ≤ length s)
-  moves = next-fits (st .args .choice) s (l .loop .start) r found (st .pre .1) before
+  moves : (i < r .end) × (r .end ≤ length s)
+  moves = next-fits (st .args .choice) s i r (c .read-on .ensures .lexed) (st .pre .1) before
 
 returns : tie.Need-returns Inv-loop μ-loop
 returns c =
-    let e = c .before .before in
-    ap recordsOf (sym (l e .loop .inv) ∙ chosen-keep (st e .args .choice) (s e) (l e .loop .start) (r e) (found e) (st e .pre .1) (before e) (sym (c .before .keeps .ensures) ∙ c .if1 .taken))
+    let e = c .before .before .before .before in
+    let o = e .read-on .ensures in
+    let v = l e .loop .inv in
+    let k = chosen-keep (st e .args .choice) (s e) (i e) (r e) (o .lexed) (st e .pre .1) (before e) (sym (c .before .keeps .ensures) ∙ c .if2 .taken) in
+    record {
+      plan = o .plan ∙ v .0;
+      first = picks-some (to e) (λ i. recordsOf (chosen (st e .args .choice) (s e) i)) (o .found) (o .token) (ap recordsOf (sym (v .1) ∙ k));
+      ready = o .ready;
+    }
 
 loop-again : tie.Need-loop-again Inv-loop μ-loop
 loop-again c =
-    let e = c .before .before in
-    sym (chosen-drop (st e .args .choice) (s e) (l e .loop .start) (r e) (found e) (st e .pre .1) (before e) (sym (c .before .keeps .ensures) ∙ c .if1 .left)) ∙ l e .loop .inv
+    let e = c .before .before .before .before in
+    let o = e .read-on .ensures in
+    let v = l e .loop .inv in
+    let k = chosen-drop (st e .args .choice) (s e) (i e) (r e) (o .lexed) (st e .pre .1) (before e) (sym (c .before .keeps .ensures) ∙ c .if2 .left) in
+    (o .plan ∙ v .0, sym k ∙ v .1, o .ready, search needs)
+
+returns-2 : tie.Need-returns-2 Inv-loop μ-loop
+returns-2 c =
+    let l = c .before .before .before .before in
+    let v = l .loop .inv in
+    let a = l .before .before .before .args in
+    let n = picks-none (now (a .text)) (l .loop .at) (c .ended .result) (l .loop .lone) (λ i. recordsOf (chosen (a .choice) (now (a .text)) i)) (c .ended .ensures) (ap recordsOf (pick-none (a .choice) (now (a .text)) (l .loop .at .cursor) (c .before .if1 .left))) (v .2) in
+    record { plan = n .plan ∙ v .0; first = ap recordsOf (sym (v .1)) ∙ n .first; ready = n .ready }
 
 pub pick-chosen-spec : {M : Type 1} → statement M
 pick-chosen-spec =
@@ -72,16 +82,13 @@ pick-chosen-spec =
     (tie.spec
     Inv-loop
     μ-loop
-    (λ c. refl)
+    (λ c. (refl, refl, c .before .before .pre .2, refl))
+    (λ c κs. let p = c .before .before .before .before .before .before .before .pre in (p .0, omega (arith, c .before .if1 .taken, p .1), c .before .before .before .before .loop .inv .2))
+    (λ c κs. search needs)
     (λ c. search needs)
-    (λ c. search needs)
-    (λ c. search needs)
-    (λ c κs. search needs)
-    (λ c κs. search needs)
-    (λ c κs. search needs)
-    (λ c κs. search needs)
-    (λ c. let e = c .before .before in omega (arith, moves e, st e .pre .0))
-    (λ c. let e = c .before .before in omega (arith, moves e, st e .pre .0))
     returns
-    (λ c. omega (arith, moves (c .before .before)))
-    loop-again)
+    (λ c. omega (arith, moves (c .before .before .before .before)))
+    loop-again
+    (λ c κs. search needs)
+    (λ c. search needs)
+    returns-2)
