@@ -259,6 +259,10 @@ fn fill(text: &[u8], choice: Choice, list: &mut [u8]) -> usize
     requires { ⌜ (length (now text) ≤ maxQuerySize) × (choice .position ≤ length (now text)) × (length (chosen choice (now text) 0) * tokenBytes ≤ length (now list)) ⌝ }
     ensures { λ r. ⌜ (let ts = chosen choice (now (text .entry)) 0 in (r ≡ length ts) × (now (list .exit) ≡ filled (pack ts) (now (list .entry)))) ⌝ }
 {
+    // A walk makes its table first, which an empty list does not need.
+    if choice.position == 0 {
+        return 0;
+    }
     let none = Stored {
         cursor: 0,
         bytes: 0,

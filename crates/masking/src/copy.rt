@@ -171,6 +171,10 @@ fn mask_tokens(text: &[u8], copy: &mut [u8])
     requires { ⌜ (length (now text) ≤ maxQuerySize) × (now copy ≡ filled (now text) (now copy)) ⌝ }
     ensures { λ r. ⌜ now (copy .exit) ≡ filled (masked (now (text .entry))) (now (copy .entry)) ⌝ }
 {
+    // A walk makes its table first, which an empty text does not need.
+    if text.len() == 0 {
+        return;
+    }
     let no_bits = [0u64; 1];
     let mut at = mask_some(text, copy, 0, 0, &no_bits);
     while at < text.len() {
