@@ -33,16 +33,22 @@ use Rattle.lists.specs.Plans.{planOf, storedBy, Follows}
 use Rattle.lists.specs.Picks.{Answered, Fits, Ready, Picks, answerBy, recordsFrom, recordsOf}
 use Rattle.lists.proofs.Choosing.{chosen-stop}
 
--- A list that is to be stored: what is answered where it fits, and what where it does not.
-pub answered-in : (ts : List Token) (number room n : ℕ) (fits r : Answer) → n ≡ length ts → says fits number n → storedBy fits ≡ n
-    → r ≡ cond (ltb room n) (NoRoom n) fits → Answered r (outcome (storing ts number) room)
-answered-in ts number room n fits r e s st f =
-    subst (λ (a : Answer). Answered a (outcome (storing ts number) room)) (sym f)
-    (subst (λ (m : ℕ). Answered (cond (ltb room m) (NoRoom m) fits) (outcome (storing ts number) room)) (sym e) (go (ltb room (length ts))))
+-- A list of n tokens that is to be stored: what is answered where it fits, and what where it does not.
+pub answered-in : (plan p : Plan) (ts : List Token) (number room n : ℕ) (r : Answer) → n ≡ length ts → says (answerBy plan n) number n → storedBy (answerBy plan n) ≡ n
+    → p ≡ cond (ltb room n) (Refused (NoRoom n)) plan → r ≡ answerBy p n → Answered r (outcome (storing ts number) room)
+answered-in plan p ts number room n r e s st f g =
+    subst (λ (x : Answer). Answered x (outcome (storing ts number) room)) (sym (g ∙ ap (λ (q : Plan). answerBy q n) f))
+    (subst
+    (λ (m : ℕ). says (answerBy plan m) number m → storedBy (answerBy plan m) ≡ m → Answered (answerBy (cond (ltb room m) (Refused (NoRoom m)) plan) m) (outcome (storing ts number) room))
+    (sym e)
+    (go (ltb room (length ts)))
+    s
+    st)
   where
-    go : (b : Bool) → Answered (cond b (NoRoom (length ts)) fits) (cond b (record { number = table.NoRoom; value = length ts; tokens = [] }) (record { number = number; value = length ts; tokens = ts }))
-    go true = ((refl, refl), refl)
-    go false = ((s .0, s .1 ∙ e), st ∙ e)
+    go : (b : Bool) → says (answerBy plan (length ts)) number (length ts) → storedBy (answerBy plan (length ts)) ≡ length ts
+        → Answered (answerBy (cond b (Refused (NoRoom (length ts))) plan) (length ts)) (cond b (record { number = table.NoRoom; value = length ts; tokens = [] }) (record { number = number; value = length ts; tokens = ts }))
+    go true s st = ((refl, refl), refl)
+    go false s st = (s, st)
 
 -- A refusal is carried out.
 pub fits-refused : (answer : Answer) (text : List ℕ) (room : ℕ) → storedBy answer ≡ 0 → Fits (Refused answer) text (outcome (planOf (Refused answer) text) room) room

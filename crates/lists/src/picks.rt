@@ -40,45 +40,6 @@ pub struct Picking {
     pub wasted: usize,
 }
 
-fn in_room(needed: usize, room: usize, answer: Answer) -> Answer
-    ensures { λ r. ⌜ r ≡ cond (ltb room needed) (NoRoom needed) answer ⌝ }
-{
-    if room < needed {
-        return Answer::NoRoom(needed);
-    }
-    answer
-}
-
-// What a listing answers where there is room for so many tokens.
-pub fn answer_in(text: &[u8], plan: Plan, room: usize) -> Answer
-    requires { ⌜ Follows plan (now text) ⌝ }
-    ensures { λ r. ⌜ Answered r (outcome (planOf plan (now (text .entry))) room) ⌝ }
-{
-    match plan {
-        Plan::Refused(answer) => answer,
-        Plan::TooLong => in_room(2, room, Answer::TooLong(2)),
-        Plan::List(choice) => {
-            let n = count(text, choice);
-            in_room(n, room, Answer::Done(n))
-        }
-    }
-}
-
-// How many tokens are stored where this is answered.
-pub fn stored_by(answer: Answer) -> usize
-    ensures { λ r. ⌜ r ≡ storedBy answer ⌝ }
-{
-    match answer {
-        Answer::Done(n) => n,
-        Answer::TooLong(n) => n,
-        Answer::NotUtf8(_) => 0,
-        Answer::NoRoom(_) => 0,
-        Answer::NoPart => 0,
-        Answer::NoMode => 0,
-        Answer::OtherLength => 0,
-    }
-}
-
 // The plan, or its refusal where the room is too small.
 fn fitted(plan: Plan, tokens: usize, room: usize) -> Plan
     ensures { λ r. ⌜ r ≡ cond (ltb room tokens) (Refused (NoRoom tokens)) plan ⌝ }
@@ -125,14 +86,50 @@ pub fn begin(text: &[u8], plan: Plan, room: usize) -> Picking
 }
 
 // What is answered where so many tokens are stored.
-pub fn answer_by(picking: Picking, tokens: usize) -> Answer
-    ensures { λ r. ⌜ r ≡ answerBy (picking .plan) tokens ⌝ }
+fn answer_of(plan: Plan, tokens: usize) -> Answer
+    ensures { λ r. ⌜ r ≡ answerBy plan tokens ⌝ }
 {
-    let plan = picking.plan;
     match plan {
         Plan::Refused(answer) => answer,
         Plan::TooLong => Answer::TooLong(tokens),
         Plan::List(_) => Answer::Done(tokens),
+    }
+}
+
+pub fn answer_by(picking: Picking, tokens: usize) -> Answer
+    ensures { λ r. ⌜ r ≡ answerBy (picking .plan) tokens ⌝ }
+{
+    let plan = picking.plan;
+    answer_of(plan, tokens)
+}
+
+// What a listing answers where there is room for so many tokens.
+pub fn answer_in(text: &[u8], plan: Plan, room: usize) -> Answer
+    requires { ⌜ Follows plan (now text) ⌝ }
+    ensures { λ r. ⌜ Answered r (outcome (planOf plan (now (text .entry))) room) ⌝ }
+{
+    match plan {
+        Plan::Refused(answer) => answer,
+        Plan::TooLong => answer_of(fitted(plan, 2, room), 2),
+        Plan::List(choice) => {
+            let n = count(text, choice);
+            answer_of(fitted(plan, n, room), n)
+        }
+    }
+}
+
+// How many tokens are stored where this is answered.
+pub fn stored_by(answer: Answer) -> usize
+    ensures { λ r. ⌜ r ≡ storedBy answer ⌝ }
+{
+    match answer {
+        Answer::Done(n) => n,
+        Answer::TooLong(n) => n,
+        Answer::NotUtf8(_) => 0,
+        Answer::NoRoom(_) => 0,
+        Answer::NoPart => 0,
+        Answer::NoMode => 0,
+        Answer::OtherLength => 0,
     }
 }
 
