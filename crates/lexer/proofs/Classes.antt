@@ -68,17 +68,17 @@ common-past c h =
       and-false,
     )
 
-common-alphabetic : (c : ℕ) → common c ≡ true → alphabetic c ≡ true
+pub common-alphabetic : (c : ℕ) → common c ≡ true → alphabetic c ≡ true
 common-alphabetic c e = go (decLt c 0x6D4)
   where
     go : Dec (c < 0x6D4) → alphabetic c ≡ true
     go (yes l) = and-right (common c) (alphabetic c) (common-below c l ∙ e)
     go (no l) = clash e (common-past c (omega arith))
 
-pub common-word : (d : Bool) (c : ℕ) → common c ≡ true → wordWith d c ≡ true
+pub alphabetic-word : (d : Bool) (c : ℕ) → alphabetic c ≡ true → wordWith d c ≡ true
 unfolding alphanumeric
-common-word true c e = rw (common-alphabetic c e)
-common-word false c e = rw (common-alphabetic c e)
+alphabetic-word true c e = rw e
+alphabetic-word false c e = rw e
 
 abbrev bit : ℕ → ℕ → Bool
 bit m b = eqb ((m / 2 ^ (b % 64)) % 2) 1

@@ -38,7 +38,7 @@ ghost use lib.ListN.{length, getD, take, drop};
 ghost use lib.Dec.{eqb};
 ghost use Rattle.rules.specs.Utf8.{charAt, chars};
 ghost use Rattle.classes.specs.Held.{Held};
-ghost use Rattle.rules.specs.Classes.{whiteSpace, digit, hexDigit};
+ghost use Rattle.rules.specs.Classes.{whiteSpace, alphabetic, digit, hexDigit};
 ghost use Rattle.rules.specs.Characters.{dollar, underscore, backslash};
 ghost use Rattle.rules.specs.Kinds.{NoToken, Comment, ErrorMultilineCommentIsNotClosed};
 ghost use Rattle.rules.specs.Lexeme.{first, run, enclosed};
@@ -497,6 +497,9 @@ fn starts_suffix(text: &[u8], at: usize) -> bool
     ensures { λ r. ⌜ r ≡ startsSuffix (first (chars (drop at (now (text .entry))))) ⌝ }
 {
     let c = unit_code(unit_at(text, at));
+    if is_common_letter(c) {
+        return true;
+    }
     classes::is_alphabetic(c) | (c == 0x5F)
 }
 
@@ -739,7 +742,7 @@ fn word_len(table: &ClassTable, text: &[u8], at: usize, dollar: bool) -> usize
 // True only if `c` is a letter of Latin past ASCII up to U+02C1, of Cyrillic, Hebrew or Arabic. By comparisons, so that a word of such
 // letters makes no table.
 fn is_common_letter(c: u32) -> bool
-    ensures { λ r. ⌜ (r ≡ true → (d : Bool) → wordWith d c ≡ true) ⌝ }
+    ensures { λ r. ⌜ (r ≡ true → alphabetic c ≡ true) ⌝ }
 {
     (0xC0 <= c) & (c < 0xD7)
         | (0xD8 <= c) & (c < 0xF7)
