@@ -114,7 +114,7 @@ fits-place text offset =
     (λ f.
     let l = ltb-false maxQuerySize (length text) e in
     let m = ltb-false (length text) offset f in
-    let p = place-most text offset m in
+    let p = place-most text offset in
     (omega arith, omega arith, omega arith)))
 
 pub fits-step : (s : List ℕ) (i : ℕ) → FitsExtra (step s i .number) (step s i .token .kind) (step s i .value)

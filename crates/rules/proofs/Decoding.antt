@@ -25,10 +25,10 @@ module _ (a : ℕ) where
   two-above : (b : ℕ) → 0xDF < a → utf8Two a b ≡ false
   two-above b h = simp (le-leb 0xC2 a (omega arith), lt-leb a 0xDF (omega arith))
 
-  three-below : (b c : ℕ) → a < 0xE0 → utf8Three a b c ≡ false
+  pub three-below : (b c : ℕ) → a < 0xE0 → utf8Three a b c ≡ false
   three-below b c h = simp (ne-eqb a 0xE0 (λ e. omega arith), lt-leb 0xE1 a (omega arith), ne-eqb a 0xED (λ e. omega arith), lt-leb 0xEE a (omega arith))
 
-  three-above : (b c : ℕ) → 0xEF < a → utf8Three a b c ≡ false
+  pub three-above : (b c : ℕ) → 0xEF < a → utf8Three a b c ≡ false
   three-above b c h =
       simp (
         ne-eqb a 0xE0 (λ e. omega arith),

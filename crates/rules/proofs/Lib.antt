@@ -35,7 +35,7 @@ pub mod NumberBytes
 pub mod Visible
 pub mod Relex
 pub mod Masked
--- Demand 2: the first token, the kinds, the edges, a step, the lists, how large answers get, and the bench sheet.
+-- Demand 2: the first token, the kinds, the edges, a step, the lists, the places, how large answers get, and the bench sheet.
 pub mod FirstToken
 pub mod KnownKinds
 pub mod Edges
@@ -44,6 +44,11 @@ pub mod Listing
 pub mod Unpacking
 pub mod Parts
 pub mod Places
+pub mod LineEnds
+pub mod CountSteps
+pub mod PlaceCounts
+pub mod OldPlaces
+pub mod PlaceSums
 pub mod Bounds
 pub mod Cases
 pub mod Plans

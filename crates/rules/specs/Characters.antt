@@ -4,6 +4,9 @@ use Prim.Native.Nat.{ℕ}
 abbrev pub lineFeed : ℕ
 lineFeed = 0x0A
 
+abbrev pub carriageReturn : ℕ
+carriageReturn = 0x0D
+
 abbrev pub exclamation : ℕ
 exclamation = 0x21
 

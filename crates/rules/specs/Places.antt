@@ -1,25 +1,57 @@
--- Document 01, "Hidden bytes and places": the place of a byte offset.
-use Prim.Native.Nat.{ℕ, suc}
+-- Document 02, #103, in the place of document 01's sentence in "Hidden bytes and places": the place of a byte offset, as the Language Server
+-- Protocol 3.17 counts it. It is read over the text's characters, from its start.
+use Prim.Native.Nat.{ℕ, _+_, _-_}
 use mathlib.Core.List.{List, [], _∷_}
-use mathlib.Core.Bool.{true, false}
-use lib.ListN.{take}
-use lib.Dec.{eqb}
-use Rattle.rules.specs.Characters.{lineFeed}
+use mathlib.Core.Bool.{Bool, true, false, not, cond, _&&_, _||_}
+use lib.Dec.{leb, eqb}
+use Rattle.rules.specs.Characters.{lineFeed, carriageReturn}
+use Rattle.rules.specs.Utf8.{within, Char, width, chars}
+use Rattle.rules.specs.Lexeme.{first}
 
 -- A place; a refused one is line 0, column 0.
 pub record Place : Type 0 where
   pub line : ℕ
   pub column : ℕ
 
--- The place after one byte more.
-abbrev pub past : ℕ → Place → Place
-past b p = elim (eqb b lineFeed) [ true ↦ record { line = suc (p .line); column = 0 } | false ↦ record { line = p .line; column = suc (p .column) } ]
+-- "columns are UTF-16 code units (two for a character above U+FFFF, otherwise one)"; "A byte that begins no character counts as one unit."
+abbrev pub units : Char → ℕ
+units c = cond (within 0x10000 0x10FFFF (c .code)) 2 1
 
--- The place after the bytes that come next.
-unfoldable pub placeAfter : Place → List ℕ → Place
-placeAfter p [] = p
-placeAfter p (b ∷ s) = placeAfter (past b p) s
+-- "a line ends at LF, at CR LF taken together, or at CR alone": whether a line ends with a character, by its code and that of the next.
+-- CR LF ends with its LF, so an offset between the two "belongs to the line they end, after the CR".
+abbrev pub endsLine : ℕ → ℕ → Bool
+endsLine code next = eqb code lineFeed || (eqb code carriageReturn && not (eqb next lineFeed))
 
--- "line is the number of LF bytes before the offset, column the number of bytes between the last of these (or the text's start) and the offset."
+-- A character as it is counted.
+pub record Counted : Type 0 where
+  pub units : ℕ
+  pub ends : Bool
+
+-- The characters that lie wholly before an offset. "An offset inside a character has the place of that character": it is none of them.
+unfoldable pub before : ℕ → List Char → List Counted
+before offset [] = []
+before offset (c ∷ cs) =
+    elim (leb (width c) offset) [
+      | true ↦ record { units = units c; ends = endsLine (c .code) (first cs) } ∷ before (offset - width c) cs
+      | false ↦ []
+    ]
+
+-- How many line ends there are.
+unfoldable pub lineEnds : List Counted → ℕ
+lineEnds [] = 0
+lineEnds (c ∷ cs) = cond (c .ends) 1 0 + lineEnds cs
+
+-- The characters after the last line end; all of them where there is none.
+unfoldable pub lastLine : List Counted → List Counted
+lastLine [] = []
+lastLine (c ∷ cs) = elim (eqb (lineEnds (c ∷ cs)) 0) [ true ↦ c ∷ cs | false ↦ lastLine cs ]
+
+unfoldable pub unitsOf : List Counted → ℕ
+unitsOf [] = 0
+unitsOf (c ∷ cs) = c .units + unitsOf cs
+
+abbrev pub placeIn : List Counted → Place
+placeIn cs = record { line = lineEnds cs; column = unitsOf (lastLine cs) }
+
 unfoldable pub placeOf : List ℕ → ℕ → Place
-placeOf s offset = placeAfter (record { line = 0; column = 0 }) (take offset s)
+placeOf s offset = placeIn (before offset (chars s))

@@ -1,2 +1,4 @@
--- Line feeds.
-pub mod Feeds
+-- Sums over bytes, what a byte adds to them, and that a place is made of them.
+pub mod Sums
+pub mod Surplus
+pub mod Lines

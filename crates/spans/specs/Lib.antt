@@ -1,3 +1,3 @@
 -- What the contracts say beside the rules.
 pub mod Placed
-pub mod Feeds
+pub mod Sums

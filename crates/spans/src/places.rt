@@ -1,12 +1,21 @@
-// The place of a byte offset: its line, and its column in that line, both from 0.
+// The place of a byte offset: its line, and its column in that line in UTF-16 code units, both from 0.
+//
+// Both are sums over bytes, so that they are added up by blocks, wherever a block begins. A line ends with a byte by that byte and the next. A
+// column is the bytes since the line's start less what each character has more of bytes than of units, which stands at its first byte.
 use rules::max_query_size;
+use utf8::byte_at;
+use utf8::is_tail;
+use utf8::unit_at;
+use utf8::unit_len;
 ghost use mathlib.Core.Path.{_≡_};
-ghost use Prim.Native.Nat.{_+_, _≤_};
-ghost use lib.ListN.{length};
-ghost use Rattle.rules.specs.Places.{placeOf};
+ghost use Prim.Native.Nat.{ℕ, _+_, _≤_, _<_};
+ghost use lib.ListN.{length, getD};
+ghost use Rattle.rules.specs.Utf8.{utf8Two, utf8Three};
+ghost use Rattle.rules.specs.Limits.{maxQuerySize};
+ghost use Rattle.rules.specs.Places.{endsLine};
 ghost use Rattle.rules.specs.Answers.{placeAt};
 ghost use Rattle.spans.specs.Placed.{placed};
-ghost use Rattle.spans.specs.Feeds.{Feeds};
+ghost use Rattle.spans.specs.Sums.{between, twosAndThrees, firstFour, plainThree, marked, markAt, endAt, surplusAt, Within, Starts, Edge};
 
 // What `place` gives: document 01's number and value, and the place.
 pub struct Placed {
@@ -16,53 +25,278 @@ pub struct Placed {
     pub column: usize,
 }
 
-// The line feeds from one index to another, so near that a byte holds their number: the compiler adds 16 of these at once.
-fn lines_in(text: &[u8], from: usize, upto: usize) -> u8
-    requires { ⌜ (from ≤ upto) × (upto ≤ length (now text)) × (upto ≤ from + 255) ⌝ }
-    ensures { λ r. ⌜ Feeds (now (text .entry)) from upto r ⌝ }
+// What is counted in a block of bytes, each by its first byte and the three after it.
+pub enum Mark {
+    // A line end, at the byte that it ends with.
+    End,
+    // A character of two bytes,
+    Two,
+    // of three,
+    Three,
+    // and of four that begin with F0.
+    Four,
+    // What is a character of three bytes where the first is none of the next, and below F0.
+    Plain,
+    // A byte that begins two bytes, or three with a second that is bounded more than a tail is.
+    Odd,
+    // A byte that begins two bytes or three.
+    Middle,
+}
+
+// The line that an index is in: where it starts, and what its characters before the index have more of bytes than of units.
+pub struct Line {
+    pub start: usize,
+    pub surplus: usize,
+}
+
+// The least and the greatest byte of a block, or beyond.
+pub struct Extent {
+    pub least: u8,
+    pub most: u8,
+}
+
+fn ends_line(a: u8, next: u8) -> bool
+    ensures { λ r. ⌜ r ≡ endsLine a next ⌝ }
 {
-    let mut lines: u8 = 0;
+    (a == b'\n') | ((a == b'\r') & !(next == b'\n'))
+}
+
+fn is_two(a: u8, b: u8) -> bool
+    ensures { λ r. ⌜ r ≡ utf8Two a b ⌝ }
+{
+    ((0xC2 <= a) & (a <= 0xDF)) & is_tail(b)
+}
+
+// No test is a jump, here and in the next, so that a block's become one.
+fn is_three(a: u8, b: u8, c: u8) -> bool
+    ensures { λ r. ⌜ r ≡ utf8Three a b c ⌝ }
+{
+    let second = ((a != 0xE0) | (0xA0 <= b)) & ((a != 0xED) | (b <= 0x9F));
+    ((0xE0 <= a) & (a <= 0xEF)) & ((is_tail(b) & is_tail(c)) & second)
+}
+
+fn is_first_four(a: u8, b: u8, c: u8, d: u8) -> bool
+    ensures { λ r. ⌜ r ≡ firstFour a b c d ⌝ }
+{
+    (a == 0xF0) & ((0x90 <= b) & (b <= 0xBF)) & is_tail(c) & is_tail(d)
+}
+
+fn is_plain(a: u8, b: u8, c: u8) -> bool
+    ensures { λ r. ⌜ r ≡ plainThree a b c ⌝ }
+{
+    (0xE0 <= a) & is_tail(b) & is_tail(c)
+}
+
+fn is_marked(mark: Mark, a: u8, b: u8, c: u8, d: u8) -> bool
+    ensures { λ r. ⌜ r ≡ marked mark a b c d ⌝ }
+{
+    match mark {
+        Mark::End => ends_line(a, b),
+        Mark::Two => is_two(a, b),
+        Mark::Three => is_three(a, b, c),
+        Mark::Four => is_first_four(a, b, c, d),
+        Mark::Plain => is_plain(a, b, c),
+        Mark::Odd => ((0xC2 <= a) & (a <= 0xE0)) | (a == 0xED),
+        Mark::Middle => (0xC2 <= a) & (a <= 0xEF),
+    }
+}
+
+// How many there are in the 128 bytes of a block, so that a byte holds it: the compiler adds 16 of these at once. It knows the mark at each
+// call. The three bytes after the block are read too.
+fn count(text: &[u8], from: usize, mark: Mark) -> u8
+    requires { ⌜ from + 131 ≤ length (now text) ⌝ }
+    ensures { λ r. ⌜ r ≡ between (markAt mark (now (text .entry))) from (from + 128) ⌝ }
+{
+    let mut n: u8 = 0;
     let mut i = from;
-    while i < upto {
-        if text[i] == b'\n' {
-            lines += 1;
+    while i < from + 128 {
+        if is_marked(mark, text[i], text[i + 1], text[i + 2], text[i + 3]) {
+            n += 1;
         }
         i += 1;
     }
-    lines
+    n
 }
 
-// The line feeds before the offset.
-fn line_of(text: &[u8], offset: usize) -> usize
-    requires { ⌜ offset ≤ length (now text) ⌝ }
-    ensures { λ r. ⌜ r ≡ placeOf (now (text .entry)) offset .line ⌝ }
+fn extent_of_block(text: &[u8], from: usize) -> Extent
+    requires { ⌜ from + 128 ≤ length (now text) ⌝ }
+    ensures { λ r. ⌜ Within (now (text .entry)) from (from + 128) (r .least) (r .most) ⌝ }
 {
-    let mut lines = 0;
+    let mut least: u8 = 0xFF;
+    let mut most: u8 = 0;
+    let mut i = from;
+    while i < from + 128 {
+        let a = text[i];
+        if a < least {
+            least = a;
+        }
+        if most < a {
+            most = a;
+        }
+        i += 1;
+    }
+    Extent {
+        least: least,
+        most: most,
+    }
+}
+
+// What the character at i has more of bytes than of units.
+fn surplus_at(text: &[u8], i: usize) -> usize
+    requires { ⌜ i < length (now text) ⌝ }
+    ensures { λ r. ⌜ r ≡ surplusAt (now (text .entry)) i ⌝ }
+{
+    let len = unit_len(unit_at(text, i));
+    if len == 4 { 2 } else { len - 1 }
+}
+
+// The same from one index to another, byte by byte.
+fn surplus_by_byte(text: &[u8], from: usize, upto: usize) -> usize
+    requires { ⌜ (from ≤ upto) × (upto ≤ length (now text)) × (length (now text) ≤ maxQuerySize) ⌝ }
+    ensures { λ r. ⌜ r ≡ between (surplusAt (now (text .entry))) from upto ⌝ }
+{
+    let mut n = 0;
+    let mut i = from;
+    while i < upto {
+        n += surplus_at(text, i);
+        i += 1;
+    }
+    n
+}
+
+// The same over a block without longer characters.
+fn up_to_three(text: &[u8], from: usize) -> usize
+    requires { ⌜ from + 131 ≤ length (now text) ⌝ }
+    ensures { λ r. ⌜ r ≡ twosAndThrees (now (text .entry)) from (from + 128) ⌝ }
+{
+    count(text, from, Mark::Two) as usize + 2 * count(text, from, Mark::Three) as usize
+}
+
+// The same over a block, in the way that its greatest byte allows.
+fn surplus_of_block(text: &[u8], from: usize, most: u8) -> usize
+    requires { ⌜ (from + 131 ≤ length (now text)) × (length (now text) ≤ maxQuerySize) × ((k : ℕ) → from ≤ k → k < from + 128 → getD (now text) k 0 ≤ most) ⌝ }
+    ensures { λ r. ⌜ r ≡ between (surplusAt (now (text .entry))) from (from + 128) ⌝ }
+{
+    if most < 0xC2 {
+        return 0;
+    }
+    if most < 0xE0 {
+        return count(text, from, Mark::Two) as usize;
+    }
+    if most < 0xF0 {
+        if count(text, from, Mark::Odd) == 0 {
+            return 2 * count(text, from, Mark::Plain) as usize;
+        }
+        return up_to_three(text, from);
+    }
+    if most == 0xF0 {
+        let fours = 2 * count(text, from, Mark::Four) as usize;
+        if count(text, from, Mark::Middle) == 0 {
+            return fours;
+        }
+        return up_to_three(text, from) + fours;
+    }
+    surplus_by_byte(text, from, from + 128)
+}
+
+// A line ends with the byte at i.
+fn end_at(text: &[u8], i: usize) -> bool
+    requires { ⌜ i < length (now text) ⌝ }
+    ensures { λ r. ⌜ r ≡ endsLine (getD (now (text .entry)) i 0) (getD (now (text .entry)) (i + 1) 0) ⌝ }
+{
+    ends_line(text[i], byte_at(text, i + 1))
+}
+
+// The line ends before an index.
+fn line_ends(text: &[u8], upto: usize) -> usize
+    requires { ⌜ upto ≤ length (now text) ⌝ }
+    ensures { λ r. ⌜ r ≡ between (endAt (now (text .entry))) 0 upto ⌝ }
+{
+    let mut n = 0;
     let mut i = 0;
-    while offset - i >= 128 {
-        lines += lines_in(text, i, i + 128) as usize;
+    while upto - i >= 131 {
+        n += count(text, i, Mark::End) as usize;
         i += 128;
     }
-    lines + lines_in(text, i, offset) as usize
+    while i < upto {
+        if end_at(text, i) {
+            n += 1;
+        }
+        i += 1;
+    }
+    n
 }
 
-// The bytes between the last line feed before the offset, or the text's start, and the offset: sought backwards.
-fn column_of(text: &[u8], offset: usize) -> usize
-    requires { ⌜ offset ≤ length (now text) ⌝ }
-    ensures { λ r. ⌜ r ≡ placeOf (now (text .entry)) offset .column ⌝ }
+// The line that an index is in, sought backwards as far as another index, byte by byte.
+fn line_by_byte(text: &[u8], from: usize, upto: usize) -> Line
+    requires { ⌜ (from ≤ upto) × (upto ≤ length (now text)) × (length (now text) ≤ maxQuerySize) ⌝ }
+    ensures { λ r. ⌜ Starts (now (text .entry)) from upto (r .start) (r .surplus) ⌝ }
 {
-    let mut i = offset;
-    while 64 <= i {
-        if lines_in(text, i - 64, i) != 0 {
-            break;
-        }
-        i -= 64;
-    }
-    while 0 < i {
-        if text[i - 1] == b'\n' {
-            return offset - i;
+    let mut n = 0;
+    let mut i = upto;
+    while from < i {
+        if end_at(text, i - 1) {
+            return Line {
+                start: i,
+                surplus: n,
+            };
         }
         i -= 1;
+        n += surplus_at(text, i);
+    }
+    Line {
+        start: i,
+        surplus: n,
+    }
+}
+
+// The same as far as the text's start, by blocks. A block is read with the three bytes after it, so a text's last three come first.
+fn line_before(text: &[u8], upto: usize) -> Line
+    requires { ⌜ (upto ≤ length (now text)) × (length (now text) ≤ maxQuerySize) ⌝ }
+    ensures { λ r. ⌜ Starts (now (text .entry)) 0 upto (r .start) (r .surplus) ⌝ }
+{
+    let mut n = 0;
+    let mut i = upto;
+    if text.len() - upto < 3 {
+        let from = if upto < 3 { 0 } else { upto - 3 };
+        let last = line_by_byte(text, from, upto);
+        if from < last.start {
+            return last;
+        }
+        n = last.surplus;
+        i = from;
+    }
+    while 128 <= i {
+        let e = extent_of_block(text, i - 128);
+        if e.least <= b'\r' {
+            if count(text, i - 128, Mark::End) != 0 {
+                break;
+            }
+        }
+        n += surplus_of_block(text, i - 128, e.most);
+        i -= 128;
+    }
+    let first = line_by_byte(text, 0, i);
+    Line {
+        start: first.start,
+        surplus: n + first.surplus,
+    }
+}
+
+// The start of the character that the offset is inside of, or the offset.
+fn edge_of(text: &[u8], offset: usize) -> usize
+    requires { ⌜ offset ≤ length (now text) ⌝ }
+    ensures { λ r. ⌜ Edge (now (text .entry)) offset r ⌝ }
+{
+    let mut back = 1;
+    while back < 4 {
+        if offset < back {
+            return offset;
+        }
+        if unit_len(unit_at(text, offset - back)) > back {
+            return offset - back;
+        }
+        back += 1;
     }
     offset
 }
@@ -86,10 +320,12 @@ pub fn place(text: &[u8], offset: usize) -> Placed
             column: 0,
         };
     }
+    let edge = edge_of(text, offset);
+    let line = line_before(text, edge);
     Placed {
         number: 0,
         value: offset,
-        line: line_of(text, offset),
-        column: column_of(text, offset),
+        line: line_ends(text, line.start),
+        column: edge - line.start - line.surplus,
     }
 }
