@@ -108,12 +108,12 @@ static inline uint64_t giehtamun_value(uint64_t answer) {
     return answer & 0xFFFFFFFFFFFF;
 }
 
-/* The line in a place's answer: bits 28 to 55. */
+/* The line in a place's answer, counted from 0 in line ends (LF, CR LF, CR alone): bits 28 to 55. */
 static inline uint32_t giehtamun_line(uint64_t answer) {
     return (uint32_t)(answer >> 28) & 0xFFFFFFF;
 }
 
-/* The column in a place's answer: bits 0 to 27. */
+/* The column in a place's answer, counted from 0 in UTF-16 code units: bits 0 to 27. */
 static inline uint32_t giehtamun_column(uint64_t answer) {
     return (uint32_t)answer & 0xFFFFFFF;
 }
@@ -164,8 +164,14 @@ uint64_t giehtamun_token_text(const uint8_t *text, size_t text_len, size_t start
 uint64_t giehtamun_shown_text(const uint8_t *text, size_t text_len, const uint8_t *copy, size_t copy_len, uint32_t kind, size_t start,
                               size_t end);
 
-/* The place of a byte offset. Its line is the number of LF bytes before the offset, its column the number of bytes between the last of these
-   (or the text's start) and the offset; so the first line and the first column are 0. The text is not tested for UTF-8.
+/* The place of a byte offset: its position in the Language Server Protocol 3.17, with columns in UTF-16 code units, the protocol's default.
+   The first line and the first column are 0.
+   A place is read over the text's characters, from its start. A line ends at LF, at CR LF taken together, or at CR alone; the line is the
+   number of line ends wholly before the offset. The column is the number of units between the last of these (or the text's start) and the
+   offset: two for a character above U+FFFF, otherwise one.
+   An offset inside a character has the place of that character. One between CR and LF belongs to the line they end, after the CR; the
+   protocol takes such a position as the line's end.
+   The text may be any bytes and is not tested for UTF-8: a byte that begins no well-formed character counts as one unit.
    Answers 0, or refuses with 1 or 4, line 0 and column 0. */
 uint64_t giehtamun_place(const uint8_t *text, size_t text_len, size_t offset);
 

@@ -1,7 +1,7 @@
 //! ClickHouse's SQL tokenizer, proved, for hosts in Rust. These are safe functions over Giehtamun's C functions, with no dependency.
 //!
 //! A text is any bytes of at most [`MAX_QUERY_SIZE`]. Lists and masked copies want UTF-8, and say up to where it is where it is not. Offsets
-//! count bytes.
+//! count bytes; the columns of a [`Place`] count UTF-16 code units.
 //!
 //! ```
 //! use giehtamun::{Kind, list, mask};
@@ -107,18 +107,18 @@ impl Token {
     }
 }
 
-/// A place in a text, as [`place`] gives it.
+/// A place in a text, as [`place`] gives it: a position of the Language Server Protocol 3.17, with columns in UTF-16 code units.
 ///
 /// ```
 /// use giehtamun::{Place, place};
-/// assert_eq!(place(b"a\nbc", 3)?, Place { line: 1, column: 1 });
+/// assert_eq!(place("a\nשbc".as_bytes(), 4)?, Place { line: 1, column: 1 });
 /// # Ok::<(), giehtamun::Refusal>(())
 /// ```
 #[derive(Clone, Copy, Debug, Default, PartialEq, Eq, PartialOrd, Ord, Hash)]
 pub struct Place {
-    /// The line feeds before it, so that the first line is 0.
+    /// The line ends wholly before it, so that the first line is 0. A line ends at LF, at CR LF taken together, or at CR alone.
     pub line: u32,
-    /// The bytes between the last of these, or the text's start, and the place.
+    /// The UTF-16 code units between the last of these, or the text's start, and the place: two for a character above U+FFFF, otherwise one.
     pub column: u32,
 }
 
@@ -298,7 +298,7 @@ impl Iterator for Steps<'_> {
 impl FusedIterator for Steps<'_> {}
 
 /// The masked copy of a text: what strings, comments and here-documents hold has become `#`. It is as long as the text, is UTF-8, and has the
-/// same tokens at the same places.
+/// same tokens at the same offsets.
 ///
 /// ```
 /// assert_eq!(giehtamun::mask("x = 'שלום'".as_bytes())?, b"x = '########'");
@@ -340,13 +340,29 @@ pub fn shown_text<'a>(text: &'a [u8], copy: &'a [u8], token: Token) -> Result<&'
     Ok(&if token.kind.hides() { copy } else { text }[token.range()])
 }
 
-/// The place of a byte offset, which may be the text's length.
+/// The place of a byte offset, which may be the text's length. A host can send it as a position of the Language Server Protocol 3.17: line and
+/// column count from 0, the column in UTF-16 code units.
+///
+/// A line ends at LF, at CR LF taken together, or at CR alone. A character above U+FFFF counts as two units, any other as one.
 ///
 /// ```
 /// use giehtamun::{Place, Refusal, place};
-/// assert_eq!(place(b"a\n\nbc", 5)?, Place { line: 2, column: 2 });
-/// assert_eq!(place(b"a\n\nbc", 6), Err(Refusal::Beyond));
+/// assert_eq!(place(b"a\r\nb", 4)?, Place { line: 1, column: 1 });
+/// assert_eq!(place("שb".as_bytes(), 2)?, Place { line: 0, column: 1 });
+/// assert_eq!(place("a𐐀b".as_bytes(), 5)?, Place { line: 0, column: 3 });
+/// assert_eq!(place(b"a\r\nb", 5), Err(Refusal::Beyond));
 /// # Ok::<(), Refusal>(())
+/// ```
+///
+/// An offset inside a character has the place of that character. One between CR and LF belongs to the line they end, after the CR; the protocol
+/// takes such a position as the line's end. The text is not tested for UTF-8: a byte that begins no character counts as one unit.
+///
+/// ```
+/// use giehtamun::{Place, place};
+/// assert_eq!(place("a𐐀b".as_bytes(), 3)?, Place { line: 0, column: 1 });
+/// assert_eq!(place(b"a\r\nb", 2)?, Place { line: 0, column: 2 });
+/// assert_eq!(place(b"\x80\x80", 2)?, Place { line: 0, column: 2 });
+/// # Ok::<(), giehtamun::Refusal>(())
 /// ```
 pub fn place(text: &[u8], offset: usize) -> Result<Place, Refusal> {
     let answer = c::place(text, offset);

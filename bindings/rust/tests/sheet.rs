@@ -134,15 +134,36 @@ fn parts() {
     }
 }
 
+/// Line and column of each offset of a text. The second to the seventh are the worked cases of change request #103.
+#[rustfmt::skip]
+const PLACES: [(&[u8], &[(u32, u32)]); 12] = [
+    (b"a\n\nbc", &[(0, 0), (0, 1), (1, 0), (2, 0), (2, 1), (2, 2)]),
+    (b"a\r\nb", &[(0, 0), (0, 1), (0, 2), (1, 0), (1, 1)]),
+    (b"\r\r\n\n", &[(0, 0), (1, 0), (1, 1), (2, 0), (3, 0)]),
+    ("é".as_bytes(), &[(0, 0), (0, 0), (0, 1)]),
+    ("a𐐀b".as_bytes(), &[(0, 0), (0, 1), (0, 1), (0, 1), (0, 1), (0, 3), (0, 4)]),
+    (b"\x80\x80", &[(0, 0), (0, 1), (0, 2)]),
+    (b"\r", &[(0, 0), (1, 0)]),
+    (b"", &[(0, 0)]),
+    ("ש\r𐐀\n".as_bytes(), &[(0, 0), (0, 0), (0, 1), (1, 0), (1, 0), (1, 0), (1, 0), (1, 2), (2, 0)]),
+    // The last character of one unit, and the first of two.
+    ("\u{FFFF}\u{10000}".as_bytes(), &[(0, 0), (0, 0), (0, 0), (0, 1), (0, 1), (0, 1), (0, 1), (0, 3)]),
+    // What else ends a line in Unicode ends none here.
+    ("\u{85}\u{2028}\x0B\x0C".as_bytes(), &[(0, 0), (0, 0), (0, 1), (0, 1), (0, 1), (0, 2), (0, 3), (0, 4)]),
+    // A surrogate and a character cut short: each byte begins no character.
+    (b"\xED\xA0\x80\xF0\x90\r\n", &[(0, 0), (0, 1), (0, 2), (0, 3), (0, 4), (0, 5), (0, 6), (1, 0)]),
+];
+
 #[test]
 fn places() {
-    let text = b"a\n\nbc";
-    let want = [(0, 0), (0, 1), (1, 0), (2, 0), (2, 1), (2, 2)];
-    for (offset, (line, column)) in want.into_iter().enumerate() {
-        assert_eq!(place(text, offset), Ok(Place { line, column }), "{offset}");
+    for (text, want) in PLACES {
+        assert_eq!(want.len(), text.len() + 1, "{}", text.escape_ascii());
+        for (offset, &(line, column)) in want.iter().enumerate() {
+            assert_eq!(place(text, offset), Ok(Place { line, column }), "{} at {offset}", text.escape_ascii());
+        }
+        assert_eq!(place(text, text.len() + 1), Err(Refusal::Beyond));
+        assert_eq!(place(text, usize::MAX), Err(Refusal::Beyond));
     }
-    assert_eq!(place(text, 6), Err(Refusal::Beyond));
-    assert_eq!(place(text, usize::MAX), Err(Refusal::Beyond));
 }
 
 /// An empty slice may point anywhere.
