@@ -2,9 +2,11 @@
 use crate::unseen::on_a_line;
 use giehtamun::{Place, Token, place};
 
-/// The place after a part that begins at a place. From token to token, so that a list takes no more than its text's length.
-fn after(start: Place, part: &[u8]) -> Place {
-    let by = place(part, part.len()).expect("a part of a text that is not too long");
+/// The place so many bytes after a place, where the rest of the text begins. From token to token, so that a list takes no more than its
+/// text's length.
+fn after(start: Place, rest: &[u8], bytes: usize) -> Place {
+    // In the rest, not in these bytes alone: a comment may end between CR and LF, and then its CR ends no line.
+    let by = place(rest, bytes).expect("an offset in a text that is not too long");
     Place { line: start.line + by.line, column: by.column + if by.line == 0 { start.column } else { 0 } }
 }
 
@@ -12,7 +14,7 @@ pub fn lines(text: &str, tokens: Vec<Token>) -> String {
     let mut out = String::new();
     let (mut at, mut here) = (0, Place::default());
     for token in tokens {
-        here = after(here, &text.as_bytes()[at..token.start as usize]);
+        here = after(here, &text.as_bytes()[at..], token.start as usize - at);
         at = token.start as usize;
         let bytes = format!("{}..{}", token.start, token.end);
         let place = format!("{}:{}", here.line + 1, here.column + 1);

@@ -63,7 +63,7 @@ fn reason(refusal: Refusal, text: &[u8]) -> String {
     match refusal {
         Refusal::NotUtf8 { valid } => {
             let Place { line, column } = place(text, valid).expect("a place in a text that is not too long");
-            format!("not UTF-8 at byte {valid}, place {}:{}", line + 1, column + 1)
+            format!("not UTF-8 at byte {valid}, line {}, column {} in UTF-16 units", line + 1, column + 1)
         }
         other => other.to_string(),
     }

@@ -1,5 +1,6 @@
 //! What `show` prints: read back, it is the query, and nothing in the query acts on a terminal or a page.
-use giehtamun::TOKEN_BYTES;
+mod stored;
+
 use std::io::Write;
 use std::process::{Command, Stdio};
 
@@ -151,16 +152,7 @@ fn nothing_acts() {
 /// The texts of the stored answers, some of them joined to one.
 #[test]
 fn many_texts() {
-    let mut rest: &[u8] = include_bytes!("../../crates/replay/data/answers");
-    let mut texts = vec![];
-    while !rest.is_empty() {
-        let mut take = |n: usize| rest.split_off(..n).unwrap();
-        let length = u32::from_le_bytes(take(4).try_into().unwrap());
-        texts.push(std::str::from_utf8(take(length as usize)).unwrap());
-        let count = u32::from_le_bytes(take(4).try_into().unwrap());
-        take(TOKEN_BYTES * count as usize);
-    }
-    for some in texts.chunks(10) {
+    for some in stored::texts().chunks(10) {
         let text = some.concat();
         let (terminal, page) = (shown(&[], &text), shown(&["--html"], &text));
         assert!(is_quiet(&terminal) && is_quiet(&page), "{text:?}");

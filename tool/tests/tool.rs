@@ -1,5 +1,7 @@
 //! The tool as someone with a file uses it: what it prints, where, and with which status.
-use giehtamun::MAX_QUERY_SIZE;
+mod stored;
+
+use giehtamun::{MAX_QUERY_SIZE, Token, list, list_lean, place};
 use std::fs::File;
 use std::io::{Read, Write};
 use std::process::{Command, Stdio};
@@ -31,6 +33,11 @@ fn prints(words: &[&str], text: &[u8]) -> String {
     String::from_utf8(out).unwrap()
 }
 
+/// Kind, bytes and place of each line that a list prints.
+fn fields(words: &[&str], text: &[u8]) -> Vec<String> {
+    prints(words, text).lines().map(|line| line.split_whitespace().take(3).collect::<Vec<_>>().join(" ")).collect()
+}
+
 fn refuses(words: &[&str], text: &[u8], says: &str, status: i32) {
     assert_eq!(run(words, text), (vec![], format!("giehtamun: {says}\n"), Some(status)), "{words:?}");
 }
@@ -53,16 +60,60 @@ StringToken          6..10       1:7     \"'é'\"
 #[test]
 fn lists_places_over_lines_and_without_what_is_lean() {
     let text = "a /*c\nd*/ b\n\n  é '\n' e -- f".as_bytes();
-    let fields = |words: &[&str]| -> Vec<String> {
-        prints(words, text).lines().map(|line| line.split_whitespace().take(3).collect::<Vec<_>>().join(" ")).collect()
-    };
-    let lean = ["BareWord 0..1 1:1", "BareWord 10..11 2:5", "ErrorToken 15..17 4:3", "StringToken 18..21 4:6", "BareWord 22..23 5:3"];
-    assert_eq!(fields(&["list", "--lean", "-"]), lean);
-    assert_eq!(fields(&["list", "-", "--lean"]), lean);
-    let full = fields(&["list", "-"]);
+    let lean = ["BareWord 0..1 1:1", "BareWord 10..11 2:5", "ErrorToken 15..17 4:3", "StringToken 18..21 4:5", "BareWord 22..23 5:3"];
+    assert_eq!(fields(&["list", "--lean", "-"], text), lean);
+    assert_eq!(fields(&["list", "-", "--lean"], text), lean);
+    let full = fields(&["list", "-"], text);
     assert_eq!(full.len(), 13);
     assert_eq!(full[2], "Comment 2..9 1:3");
     assert_eq!(full[12], "Comment 24..28 5:5");
+}
+
+/// A Hebrew letter is a column, and a character above U+FFFF is two.
+#[test]
+fn lists_columns_in_utf16_units() {
+    let lean = |text: &str| fields(&["list", "--lean", "-"], text.as_bytes());
+    assert_eq!(lean("'שלום' a"), ["StringToken 0..10 1:1", "BareWord 11..12 1:8"]);
+    assert_eq!(lean("'a𐐀b' c"), ["StringToken 0..8 1:1", "BareWord 9..10 1:8"]);
+    assert_eq!(lean("/*ש\n😀ש*/,'é';"), ["Comma 13..14 2:6", "StringToken 14..18 2:7", "Semicolon 18..19 2:10"]);
+}
+
+/// A line ends at LF, at CR LF taken together, or at CR alone, and a comment at LF only.
+#[test]
+fn lists_lines_as_editors_end_them() {
+    let full = |text: &str| fields(&["list", "-"], text.as_bytes());
+    assert_eq!(full("a\r\nb"), ["BareWord 0..1 1:1", "Whitespace 1..3 1:2", "BareWord 3..4 2:1"]);
+    assert_eq!(full("a\rb"), ["BareWord 0..1 1:1", "Whitespace 1..2 1:2", "BareWord 2..3 2:1"]);
+    assert_eq!(full("a\n\rb"), ["BareWord 0..1 1:1", "Whitespace 1..3 1:2", "BareWord 3..4 3:1"]);
+    // The LF begins a token, and is still on the line that it ends with the CR.
+    assert_eq!(full("-- c\r\nb"), ["Comment 0..5 1:1", "Whitespace 5..6 1:6", "BareWord 6..7 2:1"]);
+    assert_eq!(full("-- c\rd\r\r\n e"), ["Comment 0..8 1:1", "Whitespace 8..10 3:2", "BareWord 10..11 4:2"]);
+    assert_eq!(fields(&["list", "--lean", "-"], b"-- c\r\nb\r\n"), ["BareWord 6..7 2:1"]);
+}
+
+/// Texts in which any three of some pieces follow one another: line ends, what may stand before them, and characters of each length.
+fn line_ends() -> Vec<String> {
+    let pieces = ["\r", "\n", "a", "ש", "𐐀", "'\r'", "'\n😀'", "-- é", "/*\r\n*/", " ", ","];
+    let pairs = pieces.iter().flat_map(|second| pieces.iter().map(move |third| [*second, *third]));
+    let after = |first: &str| pairs.clone().map(|[second, third]| format!("{first}{second}{third}")).collect();
+    pieces.iter().map(|first| after(first)).collect()
+}
+
+/// A list adds its places up from token to token; each is the place in the whole text. Some of the stored texts are joined to one.
+#[test]
+fn listed_places_are_those_of_the_whole_text() {
+    let stored = stored::texts();
+    for text in stored.chunks(100).map(|some| some.join("\r")).chain(line_ends()) {
+        let text = text.as_bytes();
+        let line = |token: &Token| {
+            let at = place(text, token.start as usize).unwrap();
+            format!("{} {}..{} {}:{}", token.kind, token.start, token.end, at.line + 1, at.column + 1)
+        };
+        for (words, tokens) in [(&["list", "-"][..], list(text).unwrap()), (&["list", "--lean", "-"], list_lean(text).unwrap())] {
+            let want: Vec<String> = tokens.iter().map(line).collect();
+            assert_eq!(fields(words, text), want, "{words:?}, {}", text.escape_ascii());
+        }
+    }
 }
 
 /// Each line of a list is one line, whatever the text holds.
@@ -106,8 +157,10 @@ fn the_size_limit() {
 #[test]
 fn refusals() {
     for words in [&["list", "-"][..], &["mask", "-"], &["show", "-"], &["show", "--html", "-"]] {
-        refuses(words, b"a\n\xD7\xA9 b\xC0\x80", "standard input: not UTF-8 at byte 6, place 2:5", 1);
+        refuses(words, b"a\n\xD7\xA9 b\xC0\x80", "standard input: not UTF-8 at byte 6, line 2, column 4 in UTF-16 units", 1);
     }
+    refuses(&["list", "-"], b"a\r\xF0\x90\x90\x80\r\n\xF0\x90", "standard input: not UTF-8 at byte 8, line 3, column 1 in UTF-16 units", 1);
+    refuses(&["list", "-"], b"\xF0\x90\x90\x80\x80", "standard input: not UTF-8 at byte 4, line 1, column 3 in UTF-16 units", 1);
     refuses(&["list", "no/such"], b"", "no/such: No such file or directory (os error 2)", 1);
     refuses(&["list", "no\nsuch"], b"", "no\\nsuch: No such file or directory (os error 2)", 1);
     refuses(&["mask", env!("CARGO_MANIFEST_DIR")], b"", concat!(env!("CARGO_MANIFEST_DIR"), ": Is a directory (os error 21)"), 1);
