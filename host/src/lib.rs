@@ -1,10 +1,11 @@
-//! The oracle, a second reading of document 01, and two ways to the proved library: the archive for this machine, which is linked (build.rs), and
-//! the bridge, which has one for this machine or another.
+//! The oracle, a second reading of document 01, places by the protocol that editors follow, and two ways to the proved library: the archive for this
+//! machine, which is linked (build.rs), and the bridge, which has one for this machine or another.
 pub mod bridge;
 #[cfg(linked)]
 pub mod linked;
 #[cfg(oracle)]
 pub mod oracle;
+pub mod protocol;
 pub mod reading;
 pub mod texts;
 #[cfg(oracle)]

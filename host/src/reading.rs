@@ -1,5 +1,5 @@
-//! A second reading of document 01, from its text alone: the lexical rules over any bytes, and what the C functions must answer and leave.
-//! Sentences are numbered as in docs/DECISIONS.md: 4.1 is the first sentence of rule 4.
+//! A second reading of document 01, from its text alone: the lexical rules over any bytes, and what the C functions must answer and leave. Places are
+//! as document 02 has mended them (#103). Sentences are numbered as in docs/DECISIONS.md: 4.1 is the first sentence of rule 4.
 use crate::{Answer, Call, Op, Triple, MAX_QUERY_SIZE, TOKEN_BYTES};
 use std::ops::Range;
 
@@ -323,16 +323,71 @@ pub fn part(call: &Call) -> u64 {
     }
 }
 
-/// What a place must answer: the number in bits 56 to 63, the line in bits 28 to 55, the column in bits 0 to 27.
-pub fn place(text: &[u8], offset: u64) -> u64 {
-    if text.len() > MAX_QUERY_SIZE {
-        return answer(1, 0, 0);
+/// What a place is read over: the text's characters, and each byte that begins none alone, with their lengths.
+fn characters(text: &[u8]) -> Vec<(Option<char>, usize)> {
+    let mut characters = vec![];
+    let mut at = 0;
+    while at < text.len() {
+        let (c, length) = unit(text, at);
+        at += length;
+        characters.push((c, length));
     }
-    if offset > text.len() as u64 {
-        return answer(4, 0, 0);
+    characters
+}
+
+/// Document 02, #103: "a line ends at LF, at CR LF taken together, or at CR alone": whether one ends between a character and what follows it.
+fn ends_line(c: Option<char>, next: Option<char>) -> bool {
+    c == Some('\n') || (c == Some('\r') && next != Some('\n'))
+}
+
+/// "columns are UTF-16 code units (two for a character above U+FFFF, otherwise one)", "A byte that begins no character counts as one unit."
+fn columns(c: Option<char>) -> usize {
+    if c.is_some_and(|c| c > '\u{FFFF}') {
+        2
+    } else {
+        1
     }
-    let before = &text[..offset as usize];
-    let line = before.iter().filter(|byte| **byte == b'\n').count();
-    let column = before.iter().rev().take_while(|byte| **byte != b'\n').count();
+}
+
+/// The line and the column of each offset in a text, and of its end.
+pub fn places(text: &[u8]) -> Vec<(usize, usize)> {
+    let characters = characters(text);
+    // What ends a line belongs to it: "one between CR and LF belongs to the line they end, after the CR".
+    let mut lines: Vec<&[(Option<char>, usize)]> = characters.chunk_by(|one, next| !ends_line(one.0, next.0)).collect();
+    if characters.last().is_none_or(|last| ends_line(last.0, None)) {
+        lines.push(&[]);
+    }
+    let mut places = vec![];
+    let mut end = (0, 0);
+    for (line, characters) in lines.into_iter().enumerate() {
+        end = (line, 0);
+        for (c, length) in characters {
+            // "An offset inside a character has the place of that character"
+            places.extend(std::iter::repeat_n(end, *length));
+            end.1 += columns(*c);
+        }
+    }
+    places.push(end);
+    places
+}
+
+/// The line in bits 28 to 55, the column in bits 0 to 27; the number, in bits 56 to 63, is 0.
+pub fn packed_place((line, column): (usize, usize)) -> u64 {
     (line as u64) << 28 | column as u64
+}
+
+/// What a place must answer, where `places` are those of the text.
+pub fn place_of(text: &[u8], offset: u64, places: &[(usize, usize)]) -> u64 {
+    if text.len() > MAX_QUERY_SIZE {
+        answer(1, 0, 0)
+    } else if offset > text.len() as u64 {
+        answer(4, 0, 0)
+    } else {
+        packed_place(places[offset as usize])
+    }
+}
+
+/// What a place must answer.
+pub fn place(text: &[u8], offset: u64) -> u64 {
+    place_of(text, offset, &places(text))
 }

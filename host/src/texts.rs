@@ -202,6 +202,33 @@ pub fn damaged(r: &mut Random, text: &str) -> Vec<u8> {
     text
 }
 
+/// Runs to count places over: of characters of one to four bytes, and of several.
+const RUNS: [&str; 14] = ["a", "b", "select 1, ", "é", "ש", "\u{7FF}", "ა", "一", "\u{FFFD}", "😀", "𐐀", "aש", "שלום ", "a😀ა"];
+
+/// What ends a line, what looks like it by some of its bytes or bits or ends one elsewhere, and single characters.
+#[rustfmt::skip]
+const BETWEEN: [&str; 24] = [
+    "\n", "\n", "\r", "\r", "\r\n", "\r\n", "\n\r", "\r\r\n", "\r\n\n", "\u{9}", "\u{B}", "\u{C}", "\u{E}", "\u{85}", "\u{2028}", "Ċ", "č",
+    "\u{2D0A}", "a", "é", "ש", "ა", "😀", "\u{10FFFF}",
+];
+
+/// A text for places, of up to 8 runs of up to 160 bytes, with up to 3 line ends or single characters after each.
+pub fn lines(r: &mut Random) -> String {
+    let mut text = String::new();
+    for _ in 0..r.below(9) {
+        let run = r.one_of(&RUNS);
+        text += &run.repeat(r.below(160 / run.len() + 1));
+        text += &some(r, &BETWEEN, 3);
+    }
+    text
+}
+
+/// Offsets everywhere in a text and just beyond, and some that would be in it with their high bits lost.
+pub fn everywhere(text: &[u8]) -> impl Iterator<Item = u64> {
+    let length = text.len() as u64;
+    (0..=length + 1).chain([1 << 32 | length, 1 << 48 | length, u64::MAX])
+}
+
 /// A text of some length with many `$`, most of which begin nothing, so that the library looks ahead: tags of their own, tags that come again nearby or far
 /// away, long ones that share their beginnings, and `$` without a tag.
 pub fn dollars(r: &mut Random, bytes: usize) -> String {

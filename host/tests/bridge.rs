@@ -37,11 +37,13 @@ fn calls<'a>(r: &mut Random, text: &'a [u8]) -> Vec<Call<'a>> {
     calls
 }
 
-/// A text, one of four damaged: a query mostly; of plain stretches, which the library takes in blocks; or with so many `$` that it looks ahead.
+/// A text, one of four damaged: a query mostly; of plain stretches, which the library takes in blocks; of lines of all kinds, as it counts places in
+/// blocks too; or with so many `$` that it looks ahead.
 fn text(r: &mut Random, i: usize) -> Vec<u8> {
     let text = match i % 100 {
         0 => texts::dollars(r, 20_000),
         1..=20 => texts::stretches(r),
+        21..=40 => texts::lines(r),
         _ => texts::random(r),
     };
     if r.below(4) == 0 {

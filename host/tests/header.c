@@ -56,7 +56,7 @@ static int parts(void) {
         return 17;
     if (!is(giehtamun_shown_text(text, sizeof text, copy, sizeof copy, GIEHTAMUN_NO_TOKEN, 2, 6), GIEHTAMUN_NO_PART, 0, 0))
         return 18;
-    if (!is_place(giehtamun_place(text, sizeof text, 5), GIEHTAMUN_DONE, 1, 3))
+    if (!is_place(giehtamun_place(text, sizeof text, 5), GIEHTAMUN_DONE, 1, 2))
         return 19;
     if (!is_place(giehtamun_place(text, sizeof text, 7), GIEHTAMUN_BEYOND, 0, 0))
         return 20;

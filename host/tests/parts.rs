@@ -1,21 +1,14 @@
-//! Token text, shown text and places, through the C functions, against the second reading.
-use host::{compare, reading, texts, Answer, Call, Op, Random, AROUND_THE_LIMIT};
+//! Token text and shown text, through the C functions, against the second reading.
+use host::{compare, reading, texts, Answer, Call, Random, AROUND_THE_LIMIT};
 
 /// What document 01 has for these, by the second reading: they write nothing.
 fn want(call: &Call) -> Answer {
-    let answer = if call.op == Op::Place { reading::place(call.text, call.number) } else { reading::part(call) };
-    Answer { answer, memory: call.memory.clone() }
+    Answer { answer: reading::part(call), memory: call.memory.clone() }
 }
 
 /// Each kind, what is none, and what would be one with its high bits lost.
 fn kinds() -> impl Iterator<Item = u32> {
     (0..=50).chain([1 << 8 | 2, 1 << 16 | 5, 1 << 31 | 7, u32::MAX])
-}
-
-/// Offsets everywhere in a text and just beyond, and some that would be in it with their high bits lost.
-fn everywhere(text: &[u8]) -> Vec<u64> {
-    let length = text.len() as u64;
-    (0..=length + 1).chain([1 << 32 | length, 1 << 48 | length, u64::MAX]).collect()
 }
 
 /// Calls for the part between two offsets: token text, and shown text of some kinds with a copy of the right length, one less and one more.
@@ -27,8 +20,8 @@ fn parts<'a>(calls: &mut Vec<Call<'a>>, text: &'a [u8], start: u64, end: u64, ki
     }
 }
 
-/// Bytes at the edges of the continuation bytes and of LF.
-const BYTES: [u8; 8] = *b"a\n\x09\x0B\x7F\x80\xBF\xC0";
+/// Bytes at the edges of the continuation bytes, and others.
+const BYTES: [u8; 8] = *b"a\n\x00\x7F\x80\xBF\xC0\xFF";
 
 #[test]
 fn everywhere_in_every_sequence_of_up_to_four_bytes() {
@@ -42,9 +35,8 @@ fn everywhere_in_every_sequence_of_up_to_four_bytes() {
         for some in texts.chunks(1 << 6) {
             let mut calls = vec![];
             for text in some {
-                let offsets = everywhere(text);
+                let offsets: Vec<u64> = texts::everywhere(text).collect();
                 for start in &offsets {
-                    calls.push(Call::read(Op::Place, *start, text));
                     for end in &offsets {
                         if length < 3 {
                             parts(&mut calls, text, *start, *end, kinds());
@@ -79,32 +71,17 @@ fn random_texts() {
         for text in &some {
             for _ in 0..10 {
                 let [start, end] = [(); 2].map(|_| r.below(text.len() + 2) as u64);
-                calls.push(Call::read(Op::Place, start, text));
                 parts(&mut calls, text, start, end, [r.below(50) as u32]);
             }
             let tokens = reading::full(text);
             for _ in 0..tokens.len().min(10) {
                 let (kind, start, end) = r.one_of(&tokens);
-                calls.push(Call::read(Op::Place, end as u64, text));
                 parts(&mut calls, text, start as u64, end as u64, [kind]);
             }
         }
         compared += compare(&calls, calls.iter().map(want));
     }
     println!("{n} random texts, half of them damaged, some of their tokens and other parts: {compared} calls");
-}
-
-/// Line feeds are counted and sought in blocks, of which these texts have several.
-#[test]
-fn one_line_feed_at_every_place_of_a_run() {
-    let mut compared = 0;
-    for at in 0..300 {
-        let mut text = vec![b'a'; 300];
-        text[at] = b'\n';
-        let calls: Vec<Call> = everywhere(&text).into_iter().map(|offset| Call::read(Op::Place, offset, &text)).collect();
-        compared += compare(&calls, calls.iter().map(want));
-    }
-    println!("one line feed in 300 bytes: {compared} calls");
 }
 
 /// The Rust's `Token::text` slices a `&str`, and panics just where `get` gives nothing.
@@ -139,7 +116,7 @@ fn sizes() {
         for byte in *b" \n\x80\xE2" {
             let text = vec![byte; length];
             let end = length as u64;
-            let mut calls: Vec<Call> = [0, 1, 500_000, end - 1, end, end + 1, u64::MAX].map(|at| Call::read(Op::Place, at, &text)).to_vec();
+            let mut calls = vec![];
             for (start, end) in [(0, 0), (0, end), (end - 1, end), (end, end), (end, end + 1), (1, 0)] {
                 parts(&mut calls, &text, start, end, [0, 3, 5, 49]);
             }

@@ -1,4 +1,5 @@
-//! Document 01's bench sheet, by the C functions and by the Rust: what is proved of the definitions is what both do.
+//! Document 01's bench sheet, by the C functions and by the Rust: what is proved of the definitions is what both do. And the cases of document 02's
+//! requests.
 use host::{compare, reading, Answer, Call, Op, Triple, MAX_QUERY_SIZE, TOKEN_BYTES};
 
 type Case = (&'static str, &'static [Triple]);
@@ -37,6 +38,9 @@ const TO_RUN: [Case; 16] = [
     ("x.1 <='é'", &[(4, 0, 1), (16, 1, 2), (3, 2, 3), (1, 3, 4), (32, 4, 6), (5, 6, 10)]),
 ];
 
+/// #103: "Comments still stop at LF only, as in the Rust."
+const COMMENTS: [Case; 2] = [("--a\rb", &[(2, 0, 5)]), ("--a\r\nb", &[(2, 0, 4), (1, 4, 5), (4, 5, 6)])];
+
 /// Other lists of one text: listing, mode, position.
 const LISTS_OF: &str = "a /*c*/ b";
 const LISTS: [(Op, u32, u64, &[Triple]); 4] = [
@@ -48,6 +52,18 @@ const LISTS: [(Op, u32, u64, &[Triple]); 4] = [
 
 /// A text and its masked copy.
 const MASKED: [&str; 2] = ["$xxx$ a $$abc$$", "$xxx$ a $$###$$"];
+
+/// #103: offset, line and column of places in a text.
+type Places = (&'static [u8], &'static [(u64, usize, usize)]);
+
+const PLACES: [Places; 6] = [
+    (b"a\r\nb", &[(0, 0, 0), (1, 0, 1), (2, 0, 2), (3, 1, 0), (4, 1, 1)]),
+    (b"\r\r\n\n", &[(1, 1, 0), (2, 1, 1), (3, 2, 0), (4, 3, 0)]),
+    ("é".as_bytes(), &[(1, 0, 0), (2, 0, 1)]),
+    ("a𐐀b".as_bytes(), &[(1, 0, 1), (2, 0, 1), (3, 0, 1), (4, 0, 1), (5, 0, 3), (6, 0, 4)]),
+    (b"\x80\x80", &[(1, 0, 1), (2, 0, 2)]),
+    (b"\r", &[(1, 1, 0)]),
+];
 
 const TOO_LONG: [Triple; 2] = [(48, 0, 0), (39, 0, 0)];
 
@@ -65,7 +81,7 @@ fn steps(text: &str, cursor: u64, number: u64, kind: u32, next: u32) {
 
 #[test]
 fn the_cases_by_the_c_functions() {
-    for (text, tokens) in PROVED.into_iter().chain(TO_RUN) {
+    for (text, tokens) in PROVED.into_iter().chain(TO_RUN).chain(COMMENTS) {
         for lent in [TOKEN_BYTES * tokens.len(), TOKEN_BYTES * text.len()] {
             lists(Call::list(Op::List, 0, 0, text.as_bytes(), lent), 0, tokens.len(), tokens);
         }
@@ -89,6 +105,19 @@ fn the_masked_case_by_the_c_function() {
         compare(&[call], [Answer { answer: reading::answer(0, 0, 15), memory }]);
     }
     lists(Call::mask(text, 14), 3, 15, &[]);
+}
+
+#[test]
+fn the_places_by_the_c_function() {
+    for (text, places) in PLACES {
+        for (offset, line, column) in places {
+            let answer = reading::packed_place((*line, *column));
+            assert_eq!(reading::place(text, *offset), answer, "{offset} of {}", text.escape_ascii());
+            compare(&[Call::read(Op::Place, *offset, text)], [Answer { answer, memory: vec![] }]);
+        }
+        let beyond = Answer { answer: reading::answer(4, 0, 0), memory: vec![] };
+        compare(&[Call::read(Op::Place, text.len() as u64 + 1, text)], [beyond]);
+    }
 }
 
 #[test]
@@ -125,7 +154,7 @@ mod by_the_rust {
 
     #[test]
     fn the_cases() {
-        for (text, tokens) in PROVED.into_iter().chain(TO_RUN) {
+        for (text, tokens) in PROVED.into_iter().chain(TO_RUN).chain(COMMENTS) {
             assert_eq!(full(text), tokens, "{text:?}");
         }
         for (op, mode, position, tokens) in LISTS {
