@@ -1,5 +1,5 @@
 //! One input of ./fuzz: what the C functions answer about a text, held to the Rust and, where the Rust has no answer, to the second reading.
-use host::{compare, compared, oracle, reading, Answer, Call, Op, Random, Triple};
+use host::{compare, compared, oracle, protocol, reading, Answer, Call, Op, Random, Triple};
 use std::sync::OnceLock;
 
 extern "C" {
@@ -89,16 +89,29 @@ fn masks(text: &[u8], full: &[Triple]) {
     }
 }
 
-/// Parts and places everywhere, against the second reading.
+/// Parts everywhere, against the second reading.
 fn parts(text: &[u8], r: &mut Random) {
     for _ in 0..6 {
         let [start, end] = [(); 2].map(|_| r.below(text.len() + 2) as u64);
         let (kind, lent) = (r.below(50) as u32, r.one_of(&[text.len(), text.len(), text.len() + 1]));
-        for call in [Call::token_text(text, start, end), Call::shown_text(text, lent, kind, start, end), Call::read(Op::Place, end, text)] {
-            let answer = if call.op == Op::Place { reading::place(text, end) } else { reading::part(&call) };
-            let memory = call.memory.clone();
+        for call in [Call::token_text(text, start, end), Call::shown_text(text, lent, kind, start, end)] {
+            let (answer, memory) = (reading::part(&call), call.memory.clone());
             compare(&[call], [Answer { answer, memory }]);
         }
+    }
+}
+
+/// Places everywhere, against the second reading, and that against the protocol.
+fn places(text: &[u8], r: &mut Random) {
+    let (mended, places) = (protocol::mended(text), reading::places(text));
+    let lines = protocol::lines(&mended);
+    for _ in 0..6 {
+        let offset = r.below(text.len() + 2);
+        if offset <= text.len() {
+            assert_eq!(places[offset], protocol::place(&lines, offset));
+        }
+        let answer = Answer { answer: reading::place_of(text, offset as u64, &places), memory: vec![] };
+        compare(&[Call::read(Op::Place, offset as u64, text)], [answer]);
     }
 }
 
@@ -117,6 +130,7 @@ fn try_text(text: &[u8]) {
     if tried(2) {
         steps(text, &mut r);
         parts(text, &mut r);
+        places(text, &mut r);
     }
     if tried(3) {
         masks(text, &full);

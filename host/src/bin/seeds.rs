@@ -19,6 +19,8 @@ fn main() {
             30 => tags(most / 2 + r.below(most / 2)) + &texts::random(&mut r),
             // Most queries are too short for the blocks that the library lists by.
             n if n % 3 == 1 => texts::stretches(&mut r),
+            // Nor have they many lines, or characters of three and four bytes.
+            n if n % 6 == 5 => texts::lines(&mut r),
             _ => texts::random(&mut r),
         };
         text.truncate(text.floor_char_boundary(most));
