@@ -21,12 +21,12 @@ mod timing;
 #[cfg(all(linked, oracle))]
 fn main() {
     let chosen = &chosen::Chosen::by_words();
-    let (all, first) = (&texts::GROUPS[..], &texts::GROUPS[..1]);
-    tables::table(chosen, "Full list", all, tables::full);
-    tables::table(chosen, "Lean list", all, tables::lean);
-    tables::table(chosen, "Masked copy", all, tables::mask);
-    tables::table(chosen, "Steps from edge to edge", all, tables::steps);
-    tables::table(chosen, "Place of the last byte", first, tables::place);
+    let (all, two, first) = (&texts::GROUPS[..], &texts::GROUPS[..2], &texts::GROUPS[..1]);
+    tables::table(chosen, "Full list", two, tables::full);
+    tables::table(chosen, "Lean list", two, tables::lean);
+    tables::table(chosen, "Masked copy", two, tables::mask);
+    tables::table(chosen, "Steps from edge to edge", two, tables::steps);
+    tables::table(chosen, "Place of the last byte", all, tables::place);
     tables::table(chosen, "Test for UTF-8 alone", first, tables::valid);
     short::table(chosen);
     tables::growth(chosen);

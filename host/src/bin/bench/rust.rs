@@ -56,9 +56,15 @@ pub fn step(text: &str) -> Token {
     Tokenizer::new(text).next_token()
 }
 
-/// The line and the column of an offset.
-pub fn place(text: &[u8], offset: usize) -> (usize, usize) {
-    let before = &text[..offset];
-    let line = before.iter().filter(|b| **b == b'\n').count();
-    (line, before.iter().rev().position(|b| *b == b'\n').unwrap_or(offset))
+/// The line and the column of an offset. The text is taken to be UTF-8, as the library does not test it either.
+pub fn place(text: &str, offset: usize) -> (usize, usize) {
+    let (mut line, mut column) = (0, 0);
+    for (at, c) in text[..text.floor_char_boundary(offset)].char_indices() {
+        match c {
+            '\r' if text[at + 1..].starts_with('\n') => column += 1,
+            '\r' | '\n' => (line, column) = (line + 1, 0),
+            _ => column += c.len_utf16(),
+        }
+    }
+    (line, column)
 }

@@ -79,10 +79,9 @@ pub fn steps(text: &[u8]) -> Pair {
 }
 
 pub fn place(text: &[u8]) -> Pair {
-    let last = text.len() - 1;
-    let (line, column) = rust::place(text, last);
-    assert_eq!(linked::place(text, last), (line << 28 | column) as u64);
-    race(|| linked::place(black_box(text), last), || rust::place(black_box(text), last))
+    let (checked, last) = (rust::checked(text), text.len() - 1);
+    assert_eq!(linked::place(text, last), reading::packed_place(rust::place(checked, last)));
+    race(|| linked::place(black_box(text), last), || rust::place(black_box(checked), last))
 }
 
 pub fn valid(text: &[u8]) -> Pair {

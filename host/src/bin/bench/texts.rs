@@ -43,10 +43,17 @@ pub const REPEATED: [Text; 18] = [
     ("short here-documents", |r, size| fitted(String::new(), size, || short_here_document(r))),
 ];
 
+/// Texts that matter to places alone.
+pub const LINES: [Text; 3] = [
+    ("Hebrew in one line", |r, size| fitted(String::new(), size, || letters(r, 'א'..='ת', 9) + r.one_of(&[" ", " ", " ", ", ", ". "]))),
+    ("CR LF lines", |r, size| fitted(String::new(), size, || sql::statement(r).replace('\n', "\r\n"))),
+    ("emoji", |r, size| fitted(String::new(), size, || letters(r, '\u{1F600}'..='\u{1F64F}', 9) + " ")),
+];
+
 /// A group of texts, with its name.
 pub type Group = (&'static str, &'static [Text]);
 
-pub const GROUPS: [Group; 2] = [("texts", &TEXTS), ("one thing again and again", &REPEATED)];
+pub const GROUPS: [Group; 3] = [("texts", &TEXTS), ("one thing again and again", &REPEATED), ("lines and columns", &LINES)];
 
 /// Goes on with pieces to a number of bytes. The last piece is cut at a character's edge, and spaces fill up what is left.
 pub fn fitted(mut text: String, size: usize, mut piece: impl FnMut() -> String) -> String {
