@@ -17,8 +17,7 @@ static uint32_t number_at(const uint8_t *list) {
     return list[0] | (uint32_t)list[1] << 8 | (uint32_t)list[2] << 16 | (uint32_t)list[3] << 24;
 }
 
-/* A line for a token: kind, start, end, line:column, and what may be shown of it. Start and end count bytes, the column UTF-16 code units,
-   all from 0. A place is counted from the text's start each time. */
+/* A line for a token, as the heading says, and at its end what may be shown of it. A place is counted from the text's start each time. */
 static int show_token(const uint8_t *text, const uint8_t *copy, size_t len, const uint8_t *token) {
     uint32_t kind = number_at(token), start = number_at(token + 4), end = number_at(token + 8);
     uint64_t place = giehtamun_place(text, len, start);
@@ -41,6 +40,7 @@ static int show(const uint8_t *text, size_t len, uint8_t *list, uint8_t *copy) {
     masked = giehtamun_mask(text, len, copy, len);
     if (refused(masked))
         return 1;
+    puts("kind, start and end in bytes, line:column in UTF-16 units, all from 0");
     for (i = 0; i < giehtamun_value(listed); i++)
         if (show_token(text, copy, len, list + i * GIEHTAMUN_TOKEN_BYTES))
             return 1;

@@ -53,3 +53,4 @@ pub mod Bounds
 pub mod Cases
 pub mod Plans
 pub mod Bench
+pub mod PlaceCases

@@ -106,6 +106,10 @@ pub units-none : unitsOf [] ≡ 0
 unfolding unitsOf
 units-none = refl
 
+pub column-none : unitsOf (lastLine []) ≡ 0
+unfolding lastLine unitsOf
+column-none = refl
+
 before-nil : (n : ℕ) → unitsOf (before n []) ≡ 0
 unfolding before unitsOf
 before-nil n = refl

@@ -20,3 +20,4 @@ pub mod Answers
 pub mod Records
 pub mod Cases
 pub mod Bench
+pub mod PlaceCases

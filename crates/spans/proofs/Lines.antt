@@ -10,13 +10,9 @@ use lib.ListN.{length, getD, drop}
 use Rattle.rules.specs.Utf8.{Char, width, charAt, chars, noCode}
 use Rattle.rules.specs.Places.{Place, Counted, units, endsLine, before, lineEnds, lastLine, unitsOf, placeIn, placeOf}
 use Rattle.rules.proofs.Decoding.{Tail, ascii-at, broken-at, fits-at, inside-at}
-use Rattle.rules.proofs.Places.{ends-none, countedAt, before-step, before-stop, before-none, lines-none, units-none, lines-cons, units-cons, column-all, column-rest, units-width, width-most}
+use Rattle.rules.proofs.Places.{ends-none, countedAt, before-step, before-stop, before-none, lines-none, units-none, lines-cons, units-cons, column-none, column-all, column-rest, units-width, width-most}
 use Rattle.spans.specs.Sums.{bit, between, endAt, surplusAt, Starts, Edge}
 use Rattle.spans.proofs.Sums.{sum-none, sum-join, sum-first, sum-zero, sum-some}
-
-column-none : unitsOf (lastLine []) ≡ 0
-unfolding lastLine unitsOf
-column-none = refl
 
 module _ (s : List ℕ) where
   abbrev size : ℕ → ℕ

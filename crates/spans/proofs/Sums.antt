@@ -89,3 +89,10 @@ pub sum-before : (f : ℕ → ℕ) (i j : ℕ) → 0 < i → i ≤ j → between
 sum-before f i j p h =
     let e : (i - 1) + 1 ≡ i = omega arith in
     sum-first f (i - 1) j (omega arith) ∙ ap (λ (k : ℕ). f (i - 1) + between f k j) e
+
+-- from an index on, by how many
+pub sum-start : (f : ℕ → ℕ) (i : ℕ) → between f i (i + 0) ≡ 0
+sum-start f i = let e : i + 0 ≡ i = omega arith in ap (between f i) e ∙ sum-none f i
+
+pub sum-more : (f : ℕ → ℕ) (i k : ℕ) → between f i (i + (k + 1)) ≡ between f i (i + k) + f (i + k)
+sum-more f i k = let e : i + (k + 1) ≡ (i + k) + 1 = omega arith in ap (between f i) e ∙ sum-next f i (i + k) (omega arith)

@@ -1,4 +1,4 @@
--- What a character has more of bytes than of units, by its first bytes; and line ends, by theirs. Assumes nothing.
+-- What a character has more of bytes than of units, by its first bytes. Assumes nothing.
 use Prim.Native.Nat.{ℕ, zero, suc, _+_, _-_, _*_, _≤_, _<_}
 use mathlib.Core.Path.{_≡_, refl, sym, ap, _∙_}
 use mathlib.Core.List.{List}
@@ -8,16 +8,13 @@ use native.Mathlib.Decide.{decLt}
 use lib.Dec.{leb, eqb}
 use lib.ListN.{length, getD, drop}
 use borrow.Author.Tests.{le-leb, lt-leb, ne-eqb, eq-eqb, leb-true, leb-false, eqb-true, eqb-false}
-use Rattle.rules.specs.Characters.{lineFeed, carriageReturn}
 use Rattle.rules.specs.Utf8.{within, utf8Tail, utf8Two, utf8Three, utf8Four, formed, wellFormed, width, charAt}
-use Rattle.rules.specs.Places.{units, endsLine}
+use Rattle.rules.specs.Places.{units}
 use Rattle.rules.proofs.Tests.{clash}
 use Rattle.rules.proofs.Decoding.{three-below, three-above, three-first, three-surrogate, three-other, four-first, at-index, formed-one, formed-low, formed-two, formed-three, formed-four, form-of, form-most, width-broken, width-formed, some-left}
 use Rattle.rules.proofs.Places.{units-four, units-other}
-use Rattle.spans.specs.Sums.{Within, between, bit, endAt, surplusAt, marked, markAt, firstFour, plainThree}
-use Rattle.spans.proofs.Sums.{sum-zero, sum-same, sum-some, sum-plus, sum-twice, sum-most}
-use Rattle.spans.specs.declared.places.Mark.{Mark}
-use Rattle.spans.specs.declared.places.Mark.the-variants.{End, Two, Three, Four, Plain, Odd, Middle}
+use Rattle.spans.specs.Sums.{bit, surplusAt, marked, markAt, firstFour, plainThree}
+use Rattle.spans.specs.declared.places.Mark.the-variants.{Two, Three, Four, Plain, Odd, Middle}
 
 abbrev flatThree : ℕ → ℕ → ℕ → Bool
 flatThree a b c = (leb 0xE0 a && leb a 0xEF) && ((utf8Tail b && utf8Tail c) && ((not (eqb a 0xE0) || leb 0xA0 b) && (not (eqb a 0xED) || leb b 0x9F)))
@@ -29,14 +26,6 @@ or-true false = refl
 and-true : (x : Bool) → (x && true) ≡ x
 and-true true = refl
 and-true false = refl
-
-bit-most : (t : Bool) → bit t ≤ 1
-bit-most true = omega arith
-bit-most false = omega arith
-
-bit-none : (t : Bool) → bit t ≡ 0 → t ≡ false
-bit-none true e = absurd (omega arith)
-bit-none false e = refl
 
 -- UTF8-3 in one test
 module _ (a b c : ℕ) where
@@ -214,75 +203,3 @@ module _ (s : List ℕ) (i : ℕ) (h : i < length s) where
       go (yes l) m = (no-two (yes l) (λ n. omega arith), no-three (omega arith))
       go (no l) (yes m) = (no-two (no l) (λ n. omega arith), three-ends m)
       go (no l) (no m) = clash (rw (le-leb 0xC2 a (omega arith), le-leb a 0xEF (omega arith))) o
-
--- What the bytes of a block add, by the greatest of them.
-module _ (s : List ℕ) (i j : ℕ) (h : j ≤ length s) where
-  abbrev Below : ℕ → Type 0
-  Below n = (k : ℕ) → i ≤ k → k < j → getD s k 0 < n
-
-  abbrev marks : Mark → ℕ
-  marks m = between (markAt m s) i j
-
-  pub block-low : i ≤ j → Below 0xC2 → between (surplusAt s) i j ≡ 0
-  block-low o p = sum-zero (surplusAt s) i j o (λ k l u. surplus-low s k (omega arith) (p k l u))
-
-  pub block-two : Below 0xE0 → between (surplusAt s) i j ≡ marks Two
-  block-two p = sum-same (surplusAt s) i (markAt Two s) j (λ k l u. surplus-two s k (omega arith) (p k l u))
-
-  both : between (λ k. markAt Two s k + 2 * markAt Three s k) i j ≡ marks Two + 2 * marks Three
-  both = omega (arith, sum-plus (markAt Two s) i (λ k. 2 * markAt Three s k) j, sum-twice (markAt Three s) i j)
-
-  pub block-three : Below 0xF0 → between (surplusAt s) i j ≡ marks Two + 2 * marks Three
-  block-three p = sum-same (surplusAt s) i (λ k. markAt Two s k + 2 * markAt Three s k) j (λ k l u. surplus-three s k (omega arith) (p k l u)) ∙ both
-
-  pub block-plain : Below 0xF0 → marks Odd ≡ 0 → between (surplusAt s) i j ≡ 2 * marks Plain
-  block-plain p o =
-      sum-same (surplusAt s) i (λ k. 2 * markAt Plain s k) j (λ k l u. surplus-plain s k (omega arith) (p k l u) (bit-none _ (omega (arith, sum-some (markAt Odd s) i j k l u))))
-      ∙ sum-twice (markAt Plain s) i j
-
-  pub block-four : Below 0xF1 → between (surplusAt s) i j ≡ (marks Two + 2 * marks Three) + 2 * marks Four
-  block-four p =
-      omega (
-        arith,
-        sum-same (surplusAt s) i (λ k. (markAt Two s k + 2 * markAt Three s k) + 2 * markAt Four s k) j (λ k l u. surplus-four s k (omega arith) (omega (arith, p k l u))),
-        sum-plus (λ k. markAt Two s k + 2 * markAt Three s k) i (λ k. 2 * markAt Four s k) j,
-        both,
-        sum-twice (markAt Four s) i j,
-      )
-
-  middle : marks Middle ≡ 0 → (k : ℕ) → i ≤ k → k < j → (markAt Two s k ≡ 0) × (markAt Three s k ≡ 0)
-  middle m k l u = middle-none s k (omega arith) (bit-none _ (omega (arith, sum-some (markAt Middle s) i j k l u)))
-
-  pub block-middle : i ≤ j → marks Middle ≡ 0 → (marks Two ≡ 0) × (marks Three ≡ 0)
-  block-middle o m = (sum-zero (markAt Two s) i j o (λ k l u. middle m k l u .0), sum-zero (markAt Three s) i j o (λ k l u. middle m k l u .1))
-
-  pub block-most : i ≤ j → between (surplusAt s) i j ≤ 2 * (j - i)
-  block-most o = sum-most (surplusAt s) i 2 j o (λ k l u. surplus-most s k (omega arith))
-
--- Bounds for one byte more
-pub within-more : {s : List ℕ} {from i least most least' most' : ℕ} → Within s from i least most → least' ≤ least → least' ≤ getD s i 0 → most ≤ most' → getD s i 0 ≤ most'
-    → Within s from (i + 1) least' most'
-within-more {s} {from} {i} {least} {most} {least'} {most'} w a b c d = record { low = λ k l u. down k l u (decLt k i); high = λ k l u. up k l u (decLt k i) }
-  where
-    down : (k : ℕ) → from ≤ k → k < i + 1 → Dec (k < i) → least' ≤ getD s k 0
-    down k l u (yes v) = omega (arith, w .low k l v)
-    down k l u (no v) = let e : k ≡ i = omega arith in omega (arith, ap (λ (n : ℕ). getD s n 0) e)
-
-    up : (k : ℕ) → from ≤ k → k < i + 1 → Dec (k < i) → getD s k 0 ≤ most'
-    up k l u (yes v) = omega (arith, w .high k l v)
-    up k l u (no v) = let e : k ≡ i = omega arith in omega (arith, ap (λ (n : ℕ). getD s n 0) e)
-
--- Line ends are a mark of their own.
-pub end-marks : (s : List ℕ) (i j : ℕ) → between (markAt End s) i j ≡ between (endAt s) i j
-unfolding marked
-end-marks s i j = refl
-
-pub ends-most : (s : List ℕ) (i j : ℕ) → i ≤ j → between (endAt s) i j ≤ j - i
-ends-most s i j h = omega (arith, sum-most (endAt s) i 1 j h (λ k l u. bit-most (endsLine (getD s k 0) (getD s (k + 1) 0))))
-
--- where no byte is as low as CR there is none
-pub ends-high : (s : List ℕ) (i j : ℕ) → i ≤ j → ((k : ℕ) → i ≤ k → k < j → carriageReturn < getD s k 0) → between (endAt s) i j ≡ 0
-ends-high s i j h p =
-    sum-zero (endAt s) i j h (λ k l u.
-    let m = p k l u in
-    rw (ne-eqb (getD s k 0) lineFeed (λ e. omega arith), ne-eqb (getD s k 0) carriageReturn (λ e. omega arith)))

@@ -25,7 +25,7 @@ pub struct Placed {
     pub column: usize,
 }
 
-// What is counted in a block of bytes, each by its first byte and the three after it.
+// What is counted in a block, told by a byte and the three after it.
 pub enum Mark {
     // A line end, at the byte that it ends with.
     End,
@@ -33,11 +33,11 @@ pub enum Mark {
     Two,
     // of three,
     Three,
-    // and of four that begin with F0.
+    // and of four, of those that begin with F0.
     Four,
-    // What is a character of three bytes where the first is none of the next, and below F0.
+    // A byte of E0 or more with two tails after it: where it is below F0 and not odd, a character of three bytes.
     Plain,
-    // A byte that begins two bytes, or three with a second that is bounded more than a tail is.
+    // A byte that begins two bytes, or begins three and bounds the second more than a tail is bounded.
     Odd,
     // A byte that begins two bytes or three.
     Middle,
@@ -108,12 +108,18 @@ fn count(text: &[u8], from: usize, mark: Mark) -> u8
     ensures { λ r. ⌜ r ≡ between (markAt mark (now (text .entry))) from (from + 128) ⌝ }
 {
     let mut n: u8 = 0;
-    let mut i = from;
-    while i < from + 128 {
-        if is_marked(mark, text[i], text[i + 1], text[i + 2], text[i + 3]) {
+    let mut k = 0;
+    while k < 128 {
+        if is_marked(
+            mark,
+            text[from + k],
+            text[from + k + 1],
+            text[from + k + 2],
+            text[from + k + 3],
+        ) {
             n += 1;
         }
-        i += 1;
+        k += 1;
     }
     n
 }
@@ -124,16 +130,16 @@ fn extent_of_block(text: &[u8], from: usize) -> Extent
 {
     let mut least: u8 = 0xFF;
     let mut most: u8 = 0;
-    let mut i = from;
-    while i < from + 128 {
-        let a = text[i];
+    let mut k = 0;
+    while k < 128 {
+        let a = text[from + k];
         if a < least {
             least = a;
         }
         if most < a {
             most = a;
         }
-        i += 1;
+        k += 1;
     }
     Extent {
         least: least,

@@ -8,7 +8,7 @@ use lib.ListN.{length}
 use Rattle.spans.specs.Sums.{bit, between, endAt, surplusAt, Starts}
 use Rattle.spans.proofs.Sums.{sum-none, sum-join}
 use Rattle.spans.proofs.Lines.{starts-near, starts-far}
-use Rattle.spans.proofs.Surplus.{end-marks, ends-high, block-most}
+use Rattle.spans.proofs.Blocks.{end-marks, ends-high, block-most}
 use Rattle.spans.proofs.places.line_before.Statement.{statement}
 use Rattle.spans.proofs.places.line_before.Tie as tie
 

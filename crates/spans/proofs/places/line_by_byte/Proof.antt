@@ -5,7 +5,7 @@ use denote.Ref.{now}
 use native.Mathlib.Omega.{arith}
 use Rattle.spans.specs.Sums.{bit, between, endAt, surplusAt, Starts}
 use Rattle.spans.proofs.Sums.{sum-none, sum-before}
-use Rattle.spans.proofs.Surplus.{block-most}
+use Rattle.spans.proofs.Blocks.{block-most}
 use Rattle.spans.proofs.places.line_by_byte.Statement.{statement}
 use Rattle.spans.proofs.places.line_by_byte.Tie as tie
 

@@ -6,7 +6,7 @@ use mathlib.Core.Logic.{⊎-elim}
 use denote.Ref.{now}
 use Rattle.spans.specs.Sums.{bit, between, endAt}
 use Rattle.spans.proofs.Sums.{sum-none, sum-next, sum-join}
-use Rattle.spans.proofs.Surplus.{end-marks, ends-most}
+use Rattle.spans.proofs.Blocks.{end-marks, ends-most}
 use Rattle.spans.proofs.places.line_ends.Statement.{statement}
 use Rattle.spans.proofs.places.line_ends.Tie as tie
 

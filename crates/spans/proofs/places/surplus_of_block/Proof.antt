@@ -5,7 +5,7 @@ use mathlib.Core.Path.{_≡_, sym, ap, _∙_}
 use denote.Ref.{now}
 use borrow.Author.Needs.{needs}
 use Rattle.spans.specs.Sums.{between, surplusAt}
-use Rattle.spans.proofs.Surplus.{block-low, block-two, block-three, block-plain, block-four, block-middle, block-most}
+use Rattle.spans.proofs.Blocks.{block-low, block-two, block-three, block-plain, block-four, block-middle, block-most}
 use Rattle.spans.proofs.places.surplus_of_block.Statement.{statement}
 use Rattle.spans.proofs.places.surplus_of_block.Tie as tie
 
