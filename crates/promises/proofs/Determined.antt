@@ -74,6 +74,9 @@ unit-code κs a r s u v p q = (same p q, refl)
 pub unit-len : Determined utf8.unit_len.ended utf8.unit_len.Reads.Learnt
 unit-len κs a r s u v p q = (same p q, refl)
 
+pub len-at : Determined utf8.len_at.ended utf8.len_at.Reads.Learnt
+len-at κs a r s u v p q = (same p q, refl)
+
 pub valid-length : Determined utf8.valid_length.ended utf8.valid_length.Reads.Learnt
 valid-length κs a r s u v p q = (same p q, refl)
 

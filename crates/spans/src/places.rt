@@ -5,8 +5,7 @@
 use rules::max_query_size;
 use utf8::byte_at;
 use utf8::is_tail;
-use utf8::unit_at;
-use utf8::unit_len;
+use utf8::len_at;
 ghost use mathlib.Core.Path.{_≡_};
 ghost use Prim.Native.Nat.{ℕ, _+_, _≤_, _<_};
 ghost use lib.ListN.{length, getD};
@@ -152,7 +151,7 @@ fn surplus_at(text: &[u8], i: usize) -> usize
     requires { ⌜ i < length (now text) ⌝ }
     ensures { λ r. ⌜ r ≡ surplusAt (now (text .entry)) i ⌝ }
 {
-    let len = unit_len(unit_at(text, i));
+    let len = len_at(text, i);
     if len == 4 { 2 } else { len - 1 }
 }
 
@@ -299,7 +298,7 @@ fn edge_of(text: &[u8], offset: usize) -> usize
         if offset < back {
             return offset;
         }
-        if unit_len(unit_at(text, offset - back)) > back {
+        if len_at(text, offset - back) > back {
             return offset - back;
         }
         back += 1;

@@ -169,6 +169,18 @@ pub fn unit_len(u: Unit) -> usize
     }
 }
 
+// The bytes of what the text has at i. No enum stands between, whose length a compiler may compare before it asks whether there is one:
+// that is right, but valgrind reports it.
+pub fn len_at(s: &[u8], i: usize) -> usize
+    ensures { λ r. ⌜ r ≡ unitLen (unitAt (drop i (now (s .entry)))) ⌝ }
+{
+    if i >= s.len() {
+        return 0;
+    }
+    let n = formed_at(s, i);
+    if n == 0 { 1 } else { n }
+}
+
 // True only if the next 8 bytes are ASCII.
 fn ascii8(s: &[u8], i: usize) -> bool
     requires { ⌜ i + 8 ≤ length (now s) ⌝ }

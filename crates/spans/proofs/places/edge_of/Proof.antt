@@ -7,7 +7,6 @@ use denote.Ref.{now}
 use lib.ListN.{drop}
 use Rattle.rules.specs.Utf8.{width, charAt}
 use Rattle.rules.proofs.Decoding.{some-left}
-use Rattle.utf8.specs.Units.{unitLen}
 use Rattle.utf8.proofs.Units.{unit-width}
 use Rattle.spans.proofs.Lines.{edge-here, edge-back}
 use Rattle.spans.proofs.places.edge_of.Statement.{statement}
@@ -20,32 +19,31 @@ abbrev μ-loop : tie.MeasureT-loop
 μ-loop text offset back₀ back = 4 - back
 
 -- the bytes of the character that is looked at
-size : (c : tie.After-unit-len Inv-loop μ-loop)
-    → let l = c .before .before .before .before in
+size : (c : tie.After-len-at Inv-loop μ-loop)
+    → let l = c .before .before .before in
     let x = l .before .before .args in
-    c .unit-len .result ≡ width (charAt (drop (x .offset - l .loop .back) (now (x .text))))
+    c .len-at .result ≡ width (charAt (drop (x .offset - l .loop .back) (now (x .text))))
 size c =
-    let l = c .before .before .before .before in
+    let l = c .before .before .before in
     let x = l .before .before .args in
-    c .unit-len .ensures
-    ∙ ap unitLen (c .before .unit-at .ensures)
+    c .len-at .ensures
     ∙ unit-width (drop (x .offset - l .loop .back) (now (x .text))) (some-left (now (x .text)) (x .offset - l .loop .back) (omega arith))
 
 -- no character that begins so near before the offset goes on past it
 step : (c : tie.Else2 Inv-loop μ-loop)
-    → let l = c .before .before .before .before .before in
+    → let l = c .before .before .before .before in
     let x = l .before .before .args in
     (p : ℕ) → p < x .offset → x .offset < p + (l .loop .back + 1) → Dec (x .offset < p + l .loop .back) → p + width (charAt (drop p (now (x .text)))) ≤ x .offset
-step c p u v (yes w) = c .before .before .before .before .before .loop .inv .2 p u w
+step c p u v (yes w) = c .before .before .before .before .loop .inv .2 p u w
 step c p u v (no w) =
-    let l = c .before .before .before .before .before in
+    let l = c .before .before .before .before in
     let x = l .before .before .args in
     let e : p ≡ x .offset - l .loop .back = omega arith in
     omega (arith, ap (λ (k : ℕ). width (charAt (drop k (now (x .text))))) e, size (c .before), c .if2 .left)
 
 loop-again : tie.Need-loop-again Inv-loop μ-loop
 loop-again c =
-    let l = c .before .before .before .before .before in
+    let l = c .before .before .before .before in
     let x = l .before .before .args in
     (omega arith, omega arith, λ p u v. step c p u v (decLt (x .offset) (p + l .loop .back)))
 
@@ -57,7 +55,7 @@ returns c =
 
 returns-2 : tie.Need-returns-2 Inv-loop μ-loop
 returns-2 c =
-    let l = c .before .before .before .before .before in
+    let l = c .before .before .before .before in
     let x = l .before .before .args in
     edge-back (now (x .text)) (x .offset) (l .loop .back) (omega arith) (omega arith) (omega arith) (omega (arith, size (c .before), c .if2 .taken))
 
@@ -75,7 +73,6 @@ edge-of-spec =
     μ-loop
     (λ c. (omega arith, omega arith, λ p l u. absurd (omega arith)))
     returns
-    (λ c κs. tt)
     (λ c κs. tt)
     returns-2
     (λ c. omega arith)
