@@ -195,11 +195,10 @@ fn surplus_of_block(text: &[u8], from: usize, most: u8) -> usize
         return up_to_three(text, from);
     }
     if most == 0xF0 {
-        let fours = 2 * count(text, from, Mark::Four) as usize;
         if count(text, from, Mark::Middle) == 0 {
-            return fours;
+            return 2 * count(text, from, Mark::Four) as usize;
         }
-        return up_to_three(text, from) + fours;
+        return up_to_three(text, from) + 2 * count(text, from, Mark::Four) as usize;
     }
     surplus_by_byte(text, from, from + 128)
 }

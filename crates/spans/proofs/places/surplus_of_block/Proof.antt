@@ -38,26 +38,26 @@ returns-5 : tie.Need-returns-5
 returns-5 c =
     let t = c .before .before .before .before .before .before .before .before in
     let x = t .args in
-    let none = block-middle (now (x .text)) (x .from) (x .from + 128) (omega arith) (omega arith) (omega (arith, c .before .count5 .ensures)) in
+    let none = block-middle (now (x .text)) (x .from) (x .from + 128) (omega arith) (omega arith) (omega (arith, c .before .before .count4 .ensures)) in
     omega (
       arith,
       block-four (now (x .text)) (x .from) (x .from + 128) (omega arith) (λ k l u. omega (arith, t .pre .2 k l u)),
       none,
-      c .before .before .count4 .ensures,
+      c .count5 .ensures,
     )
 
 -- the whole, where there are characters of every length up to four
-all : (c : tie.After-up-to-three2)
+all : (c : tie.After-count6)
     → let x = c .before .before .before .before .before .before .before .before .before .args in
-    c .up-to-three2 .result + 2 * c .before .before .before .count4 .result ≡ between (surplusAt (now (x .text))) (x .from) (x .from + 128)
+    c .before .up-to-three2 .result + 2 * c .count6 .result ≡ between (surplusAt (now (x .text))) (x .from) (x .from + 128)
 all c =
     let t = c .before .before .before .before .before .before .before .before .before in
     let x = t .args in
     omega (
       arith,
       block-four (now (x .text)) (x .from) (x .from + 128) (omega arith) (λ k l u. omega (arith, t .pre .2 k l u)),
-      c .up-to-three2 .ensures,
-      c .before .before .before .count4 .ensures,
+      c .before .up-to-three2 .ensures,
+      c .count6 .ensures,
     )
 
 add-result : tie.Need-add-result
@@ -81,11 +81,14 @@ surplus-of-block-spec =
     (λ c κs. search needs)
     returns-4
     (λ c κs. search needs)
-    (λ c. search needs)
-    (λ c. search needs)
     (λ c κs. search needs)
+    (λ c. search needs)
+    (λ c. search needs)
     returns-5
     (λ c κs. search needs)
+    (λ c κs. search needs)
+    (λ c. search needs)
+    (λ c. search needs)
     add-result
     all
     (λ c. search needs)
