@@ -43,25 +43,21 @@ module _ (s : List ℕ) where
     abbrev next : ℕ
     next = i + size i
 
-    ends-on : between (endAt s) i j ≡ endAt s i + between (endAt s) next j
-    ends-on =
-        let f = fits-at s i h in
+    sum-on : (f : ℕ → ℕ) → ((k : ℕ) → i < k → k < next → f k ≡ 0) → between f i j ≡ f i + between f next j
+    sum-on f tails =
+        let p = fits-at s i h in
         omega (
           arith,
-          sum-first (endAt s) i j (omega arith),
-          sum-join (endAt s) (i + 1) next j (omega arith) l,
-          sum-zero (endAt s) (i + 1) next (omega arith) (λ k m u. tail-end i k h (omega arith) u),
+          sum-first f i j (omega arith),
+          sum-join f (i + 1) next j (omega arith) l,
+          sum-zero f (i + 1) next (omega arith) (λ k m u. tails k (omega arith) u),
         )
 
+    ends-on : between (endAt s) i j ≡ endAt s i + between (endAt s) next j
+    ends-on = sum-on (endAt s) (λ k m u. tail-end i k h m u)
+
     surplus-on : between (surplusAt s) i j ≡ surplusAt s i + between (surplusAt s) next j
-    surplus-on =
-        let f = fits-at s i h in
-        omega (
-          arith,
-          sum-first (surplusAt s) i j (omega arith),
-          sum-join (surplusAt s) (i + 1) next j (omega arith) l,
-          sum-zero (surplusAt s) (i + 1) next (omega arith) (λ k m u. tail-surplus i k h (omega arith) u),
-        )
+    surplus-on = sum-on (surplusAt s) (λ k m u. tail-surplus i k h m u)
 
     before-on : before (j - i) (chars (drop i s)) ≡ countedAt s i ∷ before (j - next) (chars (drop next s))
     before-on =
