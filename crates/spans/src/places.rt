@@ -169,7 +169,7 @@ fn surplus_by_byte(text: &[u8], from: usize, upto: usize) -> usize
     n
 }
 
-// The same over a block without longer characters.
+// What characters of two bytes and of three have more, over a block.
 fn up_to_three(text: &[u8], from: usize) -> usize
     requires { ⌜ from + 131 ≤ length (now text) ⌝ }
     ensures { λ r. ⌜ r ≡ twosAndThrees (now (text .entry)) from (from + 128) ⌝ }
@@ -177,7 +177,7 @@ fn up_to_three(text: &[u8], from: usize) -> usize
     count(text, from, Mark::Two) as usize + 2 * count(text, from, Mark::Three) as usize
 }
 
-// The same over a block, in the way that its greatest byte allows.
+// What all characters have more, over a block, in the way that its greatest byte allows.
 fn surplus_of_block(text: &[u8], from: usize, most: u8) -> usize
     requires { ⌜ (from + 131 ≤ length (now text)) × (length (now text) ≤ maxQuerySize) × ((k : ℕ) → from ≤ k → k < from + 128 → getD (now text) k 0 ≤ most) ⌝ }
     ensures { λ r. ⌜ r ≡ between (surplusAt (now (text .entry))) from (from + 128) ⌝ }
