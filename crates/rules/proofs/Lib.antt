@@ -49,6 +49,7 @@ pub mod CountSteps
 pub mod PlaceCounts
 pub mod OldPlaces
 pub mod PlaceSums
+pub mod TokenEdges
 pub mod Bounds
 pub mod Cases
 pub mod Plans
