@@ -50,8 +50,10 @@ unfoldable pub unitsOf : List Counted → ℕ
 unitsOf [] = 0
 unitsOf (c ∷ cs) = c .units + unitsOf cs
 
+-- The line is the number of line ends among them, the column the units of those after the last.
 abbrev pub placeIn : List Counted → Place
 placeIn cs = record { line = lineEnds cs; column = unitsOf (lastLine cs) }
 
+-- The place of an offset, which may be anywhere.
 unfoldable pub placeOf : List ℕ → ℕ → Place
 placeOf s offset = placeIn (before offset (chars s))
