@@ -75,11 +75,11 @@ module _ (s : List ℕ) where
       go (yes l) = absurd (omega (arith, ap width (broken-at s i h (wide-high i h w) l)))
       go (no l) = omega arith
 
-  pub edge-back : (offset back : ℕ) → 0 < back → back ≤ offset → offset ≤ length s → back < size (offset - back) → Edge s offset (offset - back)
-  edge-back offset back z l top w = record { low = omega arith; whole = λ p u. go p u (decLt (offset - back) (p + size p)); inside = inr (omega arith, omega arith) }
+  pub edge-before : (offset e : ℕ) → e < offset → offset ≤ length s → offset < e + size e → Edge s offset e
+  edge-before offset e l top w = record { low = omega arith; whole = λ p u. go p u (decLt e (p + size p)); inside = inr (omega arith, w) }
     where
-      go : (p : ℕ) → p < offset - back → Dec (offset - back < p + size p) → p + size p ≤ offset - back
-      go p u (yes v) = absurd (omega (arith, inside-at s p (offset - back) (omega arith) u v .1, lead (offset - back) (omega arith) (omega arith)))
+      go : (p : ℕ) → p < e → Dec (e < p + size p) → p + size p ≤ e
+      go p u (yes v) = absurd (omega (arith, inside-at s p e (omega arith) u v .1, lead e (omega arith) (omega arith)))
       go p u (no v) = omega arith
 
   pub edge-here : (offset : ℕ) → offset ≤ length s → ((p : ℕ) → p < offset → offset < p + 4 → p + size p ≤ offset) → Edge s offset offset

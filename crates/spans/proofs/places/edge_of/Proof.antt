@@ -8,7 +8,7 @@ use lib.ListN.{drop}
 use Rattle.rules.specs.Utf8.{width, charAt}
 use Rattle.rules.proofs.Decoding.{some-left}
 use Rattle.utf8.proofs.Units.{unit-width}
-use Rattle.spans.proofs.Lines.{edge-here, edge-back}
+use Rattle.spans.proofs.Lines.{edge-here, edge-before}
 use Rattle.spans.proofs.places.edge_of.Statement.{statement}
 use Rattle.spans.proofs.places.edge_of.Tie as tie
 
@@ -57,7 +57,7 @@ returns-2 : tie.Need-returns-2 Inv-loop μ-loop
 returns-2 c =
     let l = c .before .before .before .before in
     let x = l .before .before .args in
-    edge-back (now (x .text)) (x .offset) (l .loop .back) (omega arith) (omega arith) (omega arith) (omega (arith, size (c .before), c .if2 .taken))
+    edge-before (now (x .text)) (x .offset) _ (omega arith) (omega arith) (omega (arith, size (c .before), c .if2 .taken))
 
 returns-3 : tie.Need-returns-3 Inv-loop μ-loop
 returns-3 c =

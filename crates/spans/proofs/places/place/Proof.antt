@@ -3,6 +3,7 @@ use mathlib.Core.Path.{_≡_, sym, ap, _∙_}
 use mathlib.Core.Bool.{false}
 use native.Mathlib.Omega.{arith}
 use denote.Ref.{now}
+use lib.ListN.{length}
 use borrow.Author.Needs.{needs}
 use borrow.Author.Tests.{lt-ltb, le-ltb}
 use Rattle.rules.specs.Limits.{maxQuerySize}
@@ -21,7 +22,7 @@ short c = le-ltb maxQuerySize _ (rw (c .before .max-query-size .ensures) at (c .
 
 returns-2 : tie.Need-returns-2
 unfolding placeAt
-returns-2 c = rw (short (c .before), lt-ltb _ _ (c .if2 .taken))
+returns-2 c = let x = c .before .before .before .before .args in rw (short (c .before), lt-ltb (length (now (x .text))) (x .offset) (omega arith))
 
 sub-t8 : tie.Need-sub-t8
 sub-t8 c =
@@ -37,7 +38,7 @@ returns-3 c =
     let x = e .before .before .before .before .args in
     let r = l .line-before .result in
     let p = place-sums (now (x .text)) (x .offset) (l .before .edge-of .result) (r .start) (r .surplus) (omega arith) (l .before .edge-of .ensures) (l .line-before .ensures) in
-    rw (short (e .before), le-ltb _ _ (e .if2 .left), p, c .before .before .line-ends .ensures)
+    rw (short (e .before), le-ltb (length (now (x .text))) (x .offset) (omega arith), p, c .before .before .line-ends .ensures)
 
 pub place-spec : {M : Type 1} → statement M
 place-spec =

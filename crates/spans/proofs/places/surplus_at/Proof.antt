@@ -1,7 +1,6 @@
 -- `spans::places::surplus_at` meets its contract. Assumes nothing.
-use Prim.Native.Nat.{ℕ, _-_}
 use native.Mathlib.Omega.{arith}
-use mathlib.Core.Path.{_≡_, sym, ap, _∙_}
+use mathlib.Core.Path.{_≡_, sym, _∙_}
 use denote.Ref.{now}
 use lib.ListN.{drop}
 use Rattle.rules.specs.Utf8.{width, charAt}
@@ -20,12 +19,12 @@ size c =
 returns : tie.Need-returns
 returns c =
     let t = c .before .before .before in
-    sym (surplus-wide (now (t .args .text)) (t .args .i) (t .pre) (sym (size (c .before)) ∙ c .if1 .taken))
+    omega (arith, surplus-wide (now (t .args .text)) (t .args .i) (t .pre) (sym (size (c .before)) ∙ c .if1 .taken))
 
 returns-2 : tie.Need-returns-2
 returns-2 c =
     let t = c .before .before .before in
-    ap (λ (n : ℕ). n - 1) (size (c .before)) ∙ sym (surplus-other (now (t .args .text)) (t .args .i) (t .pre) (λ e. c .if1 .left (size (c .before) ∙ e)))
+    omega (arith, size (c .before), surplus-other (now (t .args .text)) (t .args .i) (t .pre) (λ e. c .if1 .left (size (c .before) ∙ e)))
 
 pub surplus-at-spec : {M : Type 1} → statement M
 surplus-at-spec =
