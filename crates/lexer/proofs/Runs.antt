@@ -94,7 +94,7 @@ module _ (p : ℕ → Bool) (s : List ℕ) (j : ℕ) where
       where
         go : (u : Unit) → unitAt (drop j s) ≡ u → p (unitCode u) ≡ true → Step p s j (unitLen u)
         go (unit.Char c n) e q = step-on c n (char-unit (drop j s) c n e) q
-        go unit.Broken e q = clash q z
+        go (unit.Broken n) e q = clash q z
         go unit.End e q = clash q z
 
     pub step-left : t ≡ false → Step p s j 0
@@ -102,7 +102,7 @@ module _ (p : ℕ → Bool) (s : List ℕ) (j : ℕ) where
       where
         go : (u : Unit) → unitAt (drop j s) ≡ u → p (unitCode u) ≡ false → Step p s j 0
         go (unit.Char c n) e q = step-off c n (char-unit (drop j s) c n e) q
-        go unit.Broken e q = step-off noCode 1 (broken-unit (drop j s) e) q
+        go (unit.Broken n) e q = step-off noCode n (broken-unit (drop j s) n e) q
         go unit.End e q = step-end e
 
 -- a byte that is no line feed, whether or not a character begins there

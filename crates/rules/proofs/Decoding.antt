@@ -8,14 +8,17 @@ use mathlib.Core.Bool.{Bool, true, false, cond, _&&_, _||_, and-false, or-false}
 use native.Mathlib.Nat.{add-zero, not-suc-le-zero}
 use native.Mathlib.Omega.{arith}
 use borrow.Author.Tests.{le-leb, lt-leb, ne-eqb, leb-true, leb-false, ltb-true, ltb-false}
-use lib.ListN.{length, getD, drop, drop-of-length-le, length-drop, length-take, List·getD-eq-default}
+use lib.ListN.{length, getD, take, drop, drop-of-length-le, length-drop, length-take, List·getD-eq-default}
 use lib.Seq.{getD-drop, drop-drop, drop-cons}
 use lib.Dec.{T, leb, ltb, eqb, leb→le, eqb→eq}
-use Rattle.rules.specs.Utf8.{within, utf8Tail, utf8One, utf8Two, utf8Three, utf8Four, formed, wellFormed, codeOf, Char, width, noCode, charOf, charAt, charsAfter, chars, validAfter, validLength}
+use Rattle.rules.specs.Utf8.{within, utf8Tail, utf8One, utf8Two, utf8Three, utf8Four, formed, wellFormed, begun, brokenLength, codeOf, Char, width, noCode, charOf, charAt, charsAfter, chars, validAfter, validLength}
 
--- the form at an index, by the four bytes from it on
+-- the form at an index, by the four bytes from it on, and what is begun there, by three
 pub at-index : (s : List ℕ) (i : ℕ) → wellFormed (drop i s) ≡ formed (getD s i 0) (getD s (i + 1) 0) (getD s (i + 2) 0) (getD s (i + 3) 0)
 at-index s i = simp (getD-drop, add-zero)
+
+pub begun-index : (s : List ℕ) (i : ℕ) → brokenLength (drop i s) ≡ begun (getD s i 0) (getD s (i + 1) 0) (getD s (i + 2) 0)
+begun-index s i = simp (getD-drop, add-zero)
 
 -- The rules that a first byte leaves.
 module _ (a : ℕ) where
@@ -197,6 +200,60 @@ module _ (a b c d : ℕ) where
 pub form-of : (t : List ℕ) → Form (getD t 0 0) (getD t 1 0) (getD t 2 0) (getD t 3 0) (wellFormed t)
 form-of t = form (getD t 0 0) (getD t 1 0) (getD t 2 0) (getD t 3 0)
 
+-- What a broken character's length says of its bytes: #105, "the longest run of bytes there that begins some well-formed character".
+pub data Begun (a b c : ℕ) : ℕ → Type 0 where
+  one : Begun a b c 1
+  two : 0xE0A0 ≤ a * 256 + b → Tail b → Begun a b c 2
+  three : 0xF090 ≤ a * 256 + b → Tail b → Tail c → Begun a b c 3
+
+module _ (a b c : ℕ) where
+  by-third : T (utf8Three a b 0x80) → Begun a b c 2
+  by-third t = go (by-three a b 0x80 0 t)
+    where
+      go : Form a b 0x80 0 3 → Begun a b c 2
+      go (three l h tb tc) = two l tb
+
+  by-fourth : (x : ℕ) → T (utf8Four a b x 0x80) → (0xF090 ≤ a * 256 + b) × Tail b × Tail x
+  by-fourth x t = go (by-four a b x 0x80 t)
+    where
+      go : Form a b x 0x80 4 → (0xF090 ≤ a * 256 + b) × Tail b × Tail x
+      go (four l h tb tc td) = (l, tb, tc)
+
+  pub begun-form : Begun a b c (begun a b c)
+  unfolding begun
+  begun-form =
+      let F = Begun a b c in
+      cond-ind F (utf8Four a b c 0x80) _ _ (λ t. let p = by-fourth c t in three (p .0) (p .1) (p .2))
+      (cond-ind F (utf8Three a b 0x80 || utf8Four a b 0x80 0x80) _ _
+      (λ t. or-ind (utf8Three a b 0x80) (utf8Four a b 0x80 0x80) t by-third (λ t. let p = by-fourth 0x80 t in two (let l = p .0 in omega arith) (p .1)))
+      one)
+
+  -- a first byte below E0 begins no run of more
+  pub begun-low : a < 0xE0 → begun a b c ≡ 1
+  unfolding begun
+  begun-low h = rw (four-below a b c 0x80 (omega arith), three-below a b 0x80 h, four-below a b 0x80 0x80 (omega arith))
+
+  -- by a first byte of E0 to EF, and of F0 or more
+  pub begun-middle : 0xE0 ≤ a → a < 0xF0 → begun a b c ≡ cond (utf8Three a b 0x80) 2 1
+  unfolding begun
+  begun-middle l h = rw (four-below a b c 0x80 h, four-below a b 0x80 0x80 h, or-false (utf8Three a b 0x80))
+
+  pub begun-high : 0xF0 ≤ a → begun a b c ≡ cond (utf8Four a b c 0x80) 3 (cond (utf8Four a b 0x80 0x80) 2 1)
+  unfolding begun
+  begun-high l = rw (three-above a b 0x80 (omega arith))
+
+begun-tails : {a b c n : ℕ} → Begun a b c n → (0 < n) × (n ≤ 3) × (1 < n → Tail b) × (2 < n → Tail c)
+begun-tails one = (omega arith, omega arith, λ u. absurd (omega arith), λ u. absurd (omega arith))
+begun-tails (two l b) = (omega arith, omega arith, λ u. b, λ u. absurd (omega arith))
+begun-tails (three l b c) = (omega arith, omega arith, λ u. b, λ u. c)
+
+pub begun-of : (t : List ℕ) → Begun (getD t 0 0) (getD t 1 0) (getD t 2 0) (brokenLength t)
+begun-of t = begun-form (getD t 0 0) (getD t 1 0) (getD t 2 0)
+
+-- A broken character has one byte to three.
+pub broken-range : (t : List ℕ) → (0 < brokenLength t) × (brokenLength t ≤ 3)
+broken-range t = let p = begun-tails (begun-of t) in (p .0, p .1)
+
 -- a byte that is not 0 lies within its text
 pub within-text : (t : List ℕ) (k : ℕ) → 0 < getD t k 0 → k < length t
 within-text t k h = go (ltb k (length t)) refl
@@ -216,19 +273,26 @@ ends-within t h = go (form-of t)
     go (three a a2 b c) = omega (arith, within-text t 2 (omega (arith, c)))
     go (four a a2 b c d) = omega (arith, within-text t 3 (omega (arith, d)))
 
+pub broken-within : (t : List ℕ) → 0 < length t → brokenLength t ≤ length t
+broken-within t h = go (begun-of t)
+  where
+    go : {n : ℕ} → Begun (getD t 0 0) (getD t 1 0) (getD t 2 0) n → n ≤ length t
+    go one = omega arith
+    go (two l b) = omega (arith, within-text t 1 (omega (arith, b)))
+    go (three l b c) = omega (arith, within-text t 2 (omega (arith, c)))
+
 -- The character at the front of a text that is not empty: its bytes, and what stands after it.
-byte-of : (s : List ℕ) (b : ℕ) → width (charOf 0 (b ∷ s)) ≡ 1
+broken-of : (t : List ℕ) → brokenLength t ≤ length t → width (charOf 0 t) ≡ brokenLength t
 unfolding charOf
-byte-of s b = refl
+broken-of t h = simp length-take (omega arith)
 
 width-of : (w : ℕ) (t : List ℕ) → suc w ≤ length t → width (charOf (suc w) t) ≡ suc w
 unfolding charOf
 width-of w t h = simp length-take (omega arith)
 
--- by its form: one byte where there is none
-pub width-broken : (t : List ℕ) → 0 < length t → wellFormed t ≡ 0 → width (charAt t) ≡ 1
-width-broken [] h e = absurd (not-suc-le-zero h)
-width-broken (b ∷ s) h e = ap (λ (w : ℕ). width (charOf w (b ∷ s))) e ∙ byte-of s b
+-- by its form, and where there is none, by what is begun
+pub width-broken : (t : List ℕ) → 0 < length t → wellFormed t ≡ 0 → width (charAt t) ≡ brokenLength t
+width-broken t h e = ap (λ (w : ℕ). width (charOf w t)) e ∙ broken-of t (broken-within t h)
 
 pub width-formed : (t : List ℕ) (w : ℕ) → 0 < length t → wellFormed t ≡ suc w → width (charAt t) ≡ suc w
 width-formed t w h e =
@@ -240,7 +304,7 @@ pub fits : (t : List ℕ) → 0 < length t → (0 < width (charAt t)) × (width 
 fits t h = go (wellFormed t) refl
   where
     go : (w : ℕ) → wellFormed t ≡ w → (0 < width (charAt t)) × (width (charAt t) ≤ length t)
-    go zero e = let n = width-broken t h e in (omega arith, omega arith)
+    go zero e = let n = width-broken t h e in let p = broken-range t in let l = broken-within t h in (omega arith, omega arith)
     go (suc w) e = let n = width-formed t w h e in let l = ends-within t h in (omega arith, omega arith)
 
 -- The characters of a text, from an index on.
@@ -287,7 +351,9 @@ ascii-first b s h = ap (λ (w : ℕ). charOf w (b ∷ s)) (formed-one b (getD s 
 
 broken-first : (b : ℕ) (s : List ℕ) → 0x80 ≤ b → b < 0xC2 → charAt (b ∷ s) ≡ record { code = noCode; bytes = b ∷ [] }
 unfolding charOf
-broken-first b s l h = ap (λ (w : ℕ). charOf w (b ∷ s)) (formed-low b (getD s 0 0) (getD s 1 0) (getD s 2 0) l h)
+broken-first b s l h =
+    ap (λ (w : ℕ). charOf w (b ∷ s)) (formed-low b (getD s 0 0) (getD s 1 0) (getD s 2 0) l h)
+    ∙ ap (λ (n : ℕ). record { code = noCode; bytes = take n (b ∷ s) }) (begun-low b (getD s 0 0) (getD s 1 0) (omega arith))
 
 module _ (s : List ℕ) (i : ℕ) (h : i < length s) where
   pub ascii-at : getD s i 0 < 0x80 → charAt (drop i s) ≡ record { code = getD s i 0; bytes = getD s i 0 ∷ [] }
@@ -307,7 +373,7 @@ module _ (s : List ℕ) (i : ℕ) (h : i < length s) where
   pub chars-broken : 0x80 ≤ getD s i 0 → getD s i 0 < 0xC2 → chars (drop i s) ≡ record { code = noCode; bytes = getD s i 0 ∷ [] } ∷ chars (drop (i + 1) s)
   chars-broken l u = one-byte noCode (broken-at l u)
 
--- No byte of ASCII lies inside a character: each after its first is a tail.
+-- No byte of ASCII lies inside a character, whole or broken: each after its first is a tail.
 tails : {a b c d w : ℕ} → Form a b c d w → (w ≤ 4) × (1 < w → Tail b) × (2 < w → Tail c) × (3 < w → Tail d)
 tails none = (omega arith, λ u. absurd (omega arith), λ u. absurd (omega arith), λ u. absurd (omega arith))
 tails (one a) = (omega arith, λ u. absurd (omega arith), λ u. absurd (omega arith), λ u. absurd (omega arith))
@@ -325,11 +391,17 @@ inside-form t (suc (suc zero)) p u = tails (form-of t) .2 u
 inside-form t (suc (suc (suc zero))) p u = tails (form-of t) .3 u
 inside-form t (suc (suc (suc (suc k)))) p u = let l = tails (form-of t) .0 in absurd (omega arith)
 
+inside-begun : (t : List ℕ) (k : ℕ) → 0 < k → k < brokenLength t → Tail (getD t k 0)
+inside-begun t zero p u = absurd (omega arith)
+inside-begun t (suc zero) p u = begun-tails (begun-of t) .2 u
+inside-begun t (suc (suc zero)) p u = begun-tails (begun-of t) .3 u
+inside-begun t (suc (suc (suc k))) p u = let l = broken-range t .1 in absurd (omega arith)
+
 pub inside : (t : List ℕ) (k : ℕ) → 0 < length t → 0 < k → k < width (charAt t) → Tail (getD t k 0)
 inside t k h p u = go (wellFormed t) refl
   where
     go : (w : ℕ) → wellFormed t ≡ w → Tail (getD t k 0)
-    go zero e = let n = width-broken t h e in absurd (omega arith)
+    go zero e = let n = width-broken t h e in inside-begun t k p (omega arith)
     go (suc w) e = let n = width-formed t w h e in inside-form t k p (omega arith)
 
 pub inside-at : (s : List ℕ) (i k : ℕ) → i < length s → i < k → k < i + width (charAt (drop i s)) → Tail (getD s k 0)

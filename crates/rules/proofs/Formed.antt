@@ -1,12 +1,12 @@
--- A well-formed character depends on its own bytes alone, and a `#` in place of a byte after any character leaves the character as it is.
+-- A well-formed character depends on its own bytes alone, and a `#` in place of a byte after any character, whole or broken, leaves the character as it is.
 -- Assumes nothing.
 use Prim.Native.Nat.{ℕ, _<_}
 use native.Mathlib.Omega.{arith}
 use mathlib.Core.Path.{_≡_, refl}
 use mathlib.Core.List.{List}
-use mathlib.Core.Bool.{Bool, true, false, cond, and-false}
+use mathlib.Core.Bool.{Bool, true, false, cond, _||_, and-false}
 use lib.ListN.{getD}
-use Rattle.rules.specs.Utf8.{utf8One, utf8Two, utf8Three, utf8Four, formed, wellFormed}
+use Rattle.rules.specs.Utf8.{utf8One, utf8Two, utf8Three, utf8Four, formed, wellFormed, begun}
 use Rattle.rules.specs.Limits.{maskByte}
 
 -- the length by the four tests
@@ -76,3 +76,27 @@ module _ (a b c d : ℕ) where
   pub dark-second : formed a b c d < 2 → formed a maskByte c d ≡ formed a b c d
   unfolding formed chain
   dark-second h = simp and-false (without-two (utf8One a) (utf8Two a b) (utf8Three a b c) (utf8Four a b c d) h)
+
+-- the same of a broken character: its length by the two tests
+pick : Bool → Bool → ℕ
+pick three two = cond three 3 (cond two 2 1)
+
+without-third : (p q : Bool) → pick p q < 3 → pick false q ≡ pick p q
+unfolding pick
+without-third true q h = absurd (omega arith)
+without-third false q h = refl
+
+without-second : (p q : Bool) → pick p q < 2 → pick false false ≡ pick p q
+unfolding pick
+without-second true q h = absurd (omega arith)
+without-second false true h = absurd (omega arith)
+without-second false false h = refl
+
+module _ (a b c : ℕ) where
+  pub begun-dark-third : begun a b c < 3 → begun a b maskByte ≡ begun a b c
+  unfolding begun pick
+  begun-dark-third h = simp and-false (without-third (utf8Four a b c 0x80) (utf8Three a b 0x80 || utf8Four a b 0x80 0x80) h)
+
+  pub begun-dark-second : begun a b c < 2 → begun a maskByte c ≡ begun a b c
+  unfolding begun pick
+  begun-dark-second h = simp and-false (without-second (utf8Four a b c 0x80) (utf8Three a b 0x80 || utf8Four a b 0x80 0x80) h)

@@ -14,7 +14,7 @@ use Rattle.rules.specs.Characters.{lineFeed, carriageReturn}
 use Rattle.rules.specs.Utf8.{within, Char, width, wellFormed, charOf, codeOf, charAt, chars}
 use Rattle.rules.specs.Lexeme.{first}
 use Rattle.rules.specs.Places.{Place, units, endsLine, Counted, before, lineEnds, lastLine, unitsOf, placeIn, placeOf}
-use Rattle.rules.proofs.Decoding.{Form, none, one, two, three, four, form-of, form-most, low-of, width-broken, width-formed, some-left, ascii-at, chars-at, chars-end, fits-at, code-high}
+use Rattle.rules.proofs.Decoding.{Form, none, one, two, three, four, form-of, form-most, low-of, broken-range, width-broken, width-formed, some-left, ascii-at, chars-at, chars-end, fits-at, code-high}
 use Rattle.rules.proofs.Bytes.{next-is}
 
 -- Units: a form of four bytes has two, and any other one.
@@ -150,7 +150,7 @@ module _ (s : List ℕ) (i : ℕ) (h : i < length s) where
   width-most = go (wellFormed here) refl
     where
       go : (w : ℕ) → wellFormed here ≡ w → width (charAt here) ≤ 4
-      go zero e = omega (arith, width-broken here (some-left s i h) e)
+      go zero e = omega (arith, width-broken here (some-left s i h) e, broken-range here .1)
       go (suc w) e = omega (arith, width-formed here w (some-left s i h) e, form-most (form-of here))
 
 -- Each that is counted has a unit at least, so a line end is no more than its units.

@@ -4,12 +4,13 @@ use native.Mathlib.Omega.{arith}
 use mathlib.Core.Path.{_≡_, refl, sym, ap, _∙_, subst}
 use mathlib.Core.List.{List, [], _∷_, _++_}
 use mathlib.Core.Logic.{_⊎_, inl, inr}
-use lib.ListN.{length, getD, take, length-take}
-use Rattle.rules.specs.Utf8.{formed, wellFormed, codeOf, Char, width, charOf, charAt}
+use lib.ListN.{length, getD, take, length-take, length-append}
+use lib.Seq.{take-append-seam}
+use Rattle.rules.specs.Utf8.{formed, wellFormed, begun, brokenLength, codeOf, Char, width, noCode, charOf, charAt}
 use Rattle.rules.specs.Limits.{maskByte}
-use Rattle.rules.proofs.Reading.{flatten, Read}
-use Rattle.rules.proofs.Decoding.{Form, none, one, two, three, four, form, form-of, form-most, low-of}
-use Rattle.rules.proofs.Formed.{dark-second, dark-third, dark-fourth}
+use Rattle.rules.proofs.Reading.{flatten, Read, charOf-wide}
+use Rattle.rules.proofs.Decoding.{Form, none, one, two, three, four, form, form-of, form-most, broken-within, low-of}
+use Rattle.rules.proofs.Formed.{dark-second, dark-third, dark-fourth, begun-dark-second, begun-dark-third}
 
 -- Byte by byte: as it was, or 35
 pub data Under : List ℕ → List ℕ → Type 0 where
@@ -58,6 +59,24 @@ formed-same (x ∷ y ∷ []) r r' m h k =
 formed-same (x ∷ y ∷ z ∷ []) r r' m h k = dim-3 x y z (getD r 0 0) (getD r' 0 0) (under-get m 0) (omega arith)
 formed-same (x ∷ y ∷ z ∷ a ∷ u) r r' m h k = refl
 
+-- the same of a broken character
+fade-2 : (b0 b1 b2 x : ℕ) → (x ≡ b2) ⊎ (x ≡ maskByte) → begun b0 b1 b2 < 3 → begun b0 b1 x ≡ begun b0 b1 b2
+fade-2 b0 b1 b2 x (inl e) h = rw e
+fade-2 b0 b1 b2 x (inr e) h = rw e (begun-dark-third b0 b1 b2 h)
+
+fade-1 : (b0 b1 b2 x : ℕ) → (x ≡ b1) ⊎ (x ≡ maskByte) → begun b0 b1 b2 < 2 → begun b0 x b2 ≡ begun b0 b1 b2
+fade-1 b0 b1 b2 x (inl e) h = rw e
+fade-1 b0 b1 b2 x (inr e) h = rw e (begun-dark-second b0 b1 b2 h)
+
+begun-same : (u r r' : List ℕ) → Under r r' → 0 < length u → brokenLength (u ++ r) ≤ length u → brokenLength (u ++ r') ≡ brokenLength (u ++ r)
+begun-same [] r r' m h k = absurd (omega arith)
+begun-same (x ∷ []) r r' m h k =
+    let e2 = fade-2 x (getD r 0 0) (getD r 1 0) (getD r' 1 0) (under-get m 1) (omega arith) in
+    let e1 = fade-1 x (getD r 0 0) (getD r' 1 0) (getD r' 0 0) (under-get m 0) (omega arith) in
+    e1 ∙ e2
+begun-same (x ∷ y ∷ []) r r' m h k = fade-2 x y (getD r 0 0) (getD r' 0 0) (under-get m 0) (omega arith)
+begun-same (x ∷ y ∷ z ∷ u) r r' m h k = refl
+
 getD-in : (l : List ℕ) (i : ℕ) → 0 < getD l i 0 → i < length l
 getD-in [] i h = absurd (omega arith)
 getD-in (x ∷ l) zero h = omega arith
@@ -74,11 +93,20 @@ size-is u r _ (two _ _ b) h e = let k = length-prefix 2 u r e (getD-in (u ++ r) 
 size-is u r _ (three _ _ _ c) h e = let k = length-prefix 3 u r e (getD-in (u ++ r) 2 (omega (arith, c))) in omega arith
 size-is u r _ (four _ _ _ _ d) h e = let k = length-prefix 4 u r e (getD-in (u ++ r) 3 (omega (arith, d))) in omega arith
 
--- the code and the bytes of a character are within its length
-charOf-same : (u r r' : List ℕ) (w : ℕ) → w ≤ 4 → 0 < length u → w ≤ length u → charOf w (u ++ r') ≡ charOf w (u ++ r)
+-- a broken character is the bytes of its length
+broken-same : (u r r' : List ℕ) → Under r r' → 0 < length u → charOf 0 (u ++ r) .bytes ≡ u → charOf 0 (u ++ r') ≡ charOf 0 (u ++ r)
+unfolding charOf
+broken-same u r r' m h e =
+    let l = length-append u r in
+    let n = length-prefix (brokenLength (u ++ r)) u r e (broken-within (u ++ r) (omega arith)) in
+    let b = begun-same u r r' m h (omega arith) in
+    ap (λ (l : List ℕ). record { code = noCode; bytes = l }) (ap (λ (n : ℕ). take n (u ++ r')) (b ∙ sym n) ∙ take-append-seam u r' ∙ sym e)
+
+-- the code and the bytes of a well-formed character are within its length
+charOf-same : (u r r' : List ℕ) (w : ℕ) → w ≤ 4 → 0 < w → w ≤ length u → charOf w (u ++ r') ≡ charOf w (u ++ r)
 unfolding charOf codeOf
 charOf-same [] r r' w m h k = absurd (omega arith)
-charOf-same (x ∷ u) r r' zero m h k = refl
+charOf-same (x ∷ u) r r' zero m h k = absurd (omega arith)
 charOf-same (x ∷ u) r r' (suc zero) m h k = refl
 charOf-same (x ∷ []) r r' (suc (suc w)) m h k = absurd (omega arith)
 charOf-same (x ∷ y ∷ u) r r' (suc (suc zero)) m h k = refl
@@ -91,7 +119,11 @@ charOf-same (x ∷ y ∷ z ∷ a ∷ u) r r' (suc (suc (suc (suc (suc w))))) m h
 local-char : (u r r' : List ℕ) → Under r r' → 0 < length u → charAt (u ++ r) .bytes ≡ u → charAt (u ++ r') ≡ charAt (u ++ r)
 local-char u r r' m h e =
     let k = size-is u r (wellFormed (u ++ r)) (form-of (u ++ r)) h e in
-    ap (λ (w : ℕ). charOf w (u ++ r')) (formed-same u r r' m h k) ∙ charOf-same u r r' (wellFormed (u ++ r)) (form-most (form-of (u ++ r))) h k
+    ap (λ (w : ℕ). charOf w (u ++ r')) (formed-same u r r' m h k) ∙ go (wellFormed (u ++ r)) (form-most (form-of (u ++ r))) k e
+  where
+    go : (w : ℕ) → w ≤ 4 → w ≤ length u → charOf w (u ++ r) .bytes ≡ u → charOf w (u ++ r') ≡ charOf w (u ++ r)
+    go zero f k e = broken-same u r r' m h e
+    go (suc w) f k e = charOf-same u r r' (suc w) f (omega arith) k
 
 pub keep-char : (c : Char) {r r' : List ℕ} → Under r r' → 0 < width c → charAt (c .bytes ++ r) ≡ c → charAt (c .bytes ++ r') ≡ c
 keep-char c {r} {r'} m h e = local-char (c .bytes) r r' m h (ap (λ (d : Char). d .bytes) e) ∙ e
@@ -108,7 +140,7 @@ Propers (c ∷ cs) = Proper c × Propers cs
 
 proper-of : (b : ℕ) (s : List ℕ) (w : ℕ) → Form b (getD s 0 0) (getD s 1 0) (getD s 2 0) w → Proper (charOf w (b ∷ s))
 unfolding charOf codeOf
-proper-of b s _ none = record { wide = omega arith; ascii = λ h. absurd (omega arith); three = λ h k. absurd (omega arith) }
+proper-of b s _ none = record { wide = charOf-wide 0 b s; ascii = λ h. absurd (omega arith); three = λ h k. absurd (omega arith) }
 proper-of b s _ (one x) = record { wide = omega arith; ascii = λ h. refl; three = λ h k. absurd (omega arith) }
 proper-of b s _ (two x y t) = record { wide = omega arith; ascii = λ h. absurd (omega arith); three = λ h k. absurd (omega arith) }
 proper-of b s _ (three x y t u) = record {

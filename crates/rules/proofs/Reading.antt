@@ -5,7 +5,8 @@ use native.Mathlib.Numerals.{sub-one}
 use mathlib.Core.Path.{_≡_, refl, sym, ap, _∙_}
 use mathlib.Core.List.{List, [], _∷_, _++_, append-assoc}
 use lib.ListN.{length, take, drop, length-append}
-use Rattle.rules.specs.Utf8.{Char, width, charOf, charAt, charsAfter, chars}
+use Rattle.rules.specs.Utf8.{brokenLength, Char, width, charOf, charAt, charsAfter, chars}
+use Rattle.rules.proofs.Decoding.{broken-range}
 
 abbrev pub flatten : List Char → List ℕ
 flatten [] = []
@@ -35,7 +36,11 @@ Read (c ∷ cs) = (charAt (c .bytes ++ flatten cs) ≡ c) × (0 < width c) × Re
 -- The bytes of a character that is read
 pub charOf-bytes : (n b : ℕ) (s : List ℕ) → (w : ℕ) × (charOf n (b ∷ s) .bytes ≡ b ∷ take w s)
 unfolding charOf
-charOf-bytes zero b s = (0, refl)
+charOf-bytes zero b s = go (brokenLength (b ∷ s)) refl (broken-range (b ∷ s) .0)
+  where
+    go : (n : ℕ) → brokenLength (b ∷ s) ≡ n → 0 < n → (w : ℕ) × (take (brokenLength (b ∷ s)) (b ∷ s) ≡ b ∷ take w s)
+    go zero e h = absurd (omega arith)
+    go (suc w) e h = (w, ap (λ (n : ℕ). take n (b ∷ s)) e)
 charOf-bytes (suc w) b s = (w, refl)
 
 pub charAt-rest : (b : ℕ) (s : List ℕ) → charAt (b ∷ s) .bytes ++ drop (width (charAt (b ∷ s)) - 1) s ≡ b ∷ s
@@ -49,11 +54,8 @@ charAt-rest b s = go (charAt (b ∷ s) .bytes) (charOf-bytes _ b s .0) (charOf-b
     go : (u : List ℕ) (w : ℕ) → u ≡ b ∷ take w s → u ++ drop (length u - 1) s ≡ b ∷ s
     go u w e = rw (e, sub-one) (ap {B = List ℕ} (λ r. b ∷ r) (seam w s))
 
-pub charAt-wide : (b : ℕ) (s : List ℕ) → 0 < width (charAt (b ∷ s))
-charAt-wide b s = go (charAt (b ∷ s) .bytes) (charOf-bytes _ b s .0) (charOf-bytes _ b s .1)
-  where
-    go : (u : List ℕ) (w : ℕ) → u ≡ b ∷ take w s → 0 < length u
-    go u w e = rw e (omega arith)
+pub charOf-wide : (n b : ℕ) (s : List ℕ) → 0 < width (charOf n (b ∷ s))
+charOf-wide n b s = rw (charOf-bytes n b s .1) (omega arith)
 
 pub flatten-charsAfter : (k : ℕ) (s : List ℕ) → flatten (charsAfter k s) ≡ drop k s
 unfolding charsAfter
@@ -71,7 +73,7 @@ read-charsAfter zero [] = tt
 read-charsAfter (suc k) [] = tt
 read-charsAfter zero (b ∷ s) =
     let e : charAt (b ∷ s) .bytes ++ flatten (charsAfter (width (charAt (b ∷ s)) - 1) s) ≡ b ∷ s = rw (flatten-charsAfter (width (charAt (b ∷ s)) - 1) s) (charAt-rest b s) in
-    (ap charAt e, charAt-wide b s, read-charsAfter (width (charAt (b ∷ s)) - 1) s)
+    (ap charAt e, charOf-wide _ b s, read-charsAfter (width (charAt (b ∷ s)) - 1) s)
 read-charsAfter (suc k) (b ∷ s) = read-charsAfter k s
 
 pub read-chars : (s : List ℕ) → Read (chars s)

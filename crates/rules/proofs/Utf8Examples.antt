@@ -2,7 +2,7 @@
 use Prim.Native.Nat.{ℕ}
 use mathlib.Core.Path.{_≡_, refl}
 use mathlib.Core.List.{List, [], _∷_, map}
-use Rattle.rules.specs.Utf8.{Char, noCode, formed, codeOf, charOf, charsAfter, chars, validAfter, validLength}
+use Rattle.rules.specs.Utf8.{Char, noCode, formed, begun, codeOf, charOf, charsAfter, chars, validAfter, validLength}
 
 codes : List ℕ → List ℕ
 codes s = map (λ (c : Char). c .code) (chars s)
@@ -34,25 +34,25 @@ ex-edges = refl
 
 -- Section 3: U+0000 by C0 80, an overlong form; and those of three and of four bytes.
 overlong-two : codes (0xC0 ∷ 0x80 ∷ []) ≡ noCode ∷ noCode ∷ []
-unfolding codes charsAfter charOf codeOf formed
+unfolding codes charsAfter charOf codeOf formed begun
 overlong-two = refl
 
 overlong-three : codes (0xE0 ∷ 0x9F ∷ 0xBF ∷ []) ≡ noCode ∷ noCode ∷ noCode ∷ []
-unfolding codes charsAfter charOf codeOf formed
+unfolding codes charsAfter charOf codeOf formed begun
 overlong-three = refl
 
 overlong-four : codes (0xF0 ∷ 0x8F ∷ 0xBF ∷ 0xBF ∷ []) ≡ noCode ∷ noCode ∷ noCode ∷ noCode ∷ []
-unfolding codes charsAfter charOf codeOf formed
+unfolding codes charsAfter charOf codeOf formed begun
 overlong-four = refl
 
 -- Section 3: "the character numbers between U+D800 and U+DFFF" have no form.
 surrogate : codes (0xED ∷ 0xA0 ∷ 0x80 ∷ []) ≡ noCode ∷ noCode ∷ noCode ∷ []
-unfolding codes charsAfter charOf codeOf formed
+unfolding codes charsAfter charOf codeOf formed begun
 surrogate = refl
 
 -- U+110000 and more have none.
 beyond : codes (0xF4 ∷ 0x90 ∷ 0x80 ∷ 0x80 ∷ 0xF5 ∷ []) ≡ noCode ∷ noCode ∷ noCode ∷ noCode ∷ noCode ∷ []
-unfolding codes charsAfter charOf codeOf formed
+unfolding codes charsAfter charOf codeOf formed begun
 beyond = refl
 
 -- Document 01, the bench sheet: 61 C0 80 is valid up to 1, and ED A0 80 up to 0. A form cut short ends the prefix too.

@@ -1,7 +1,7 @@
 -- RFC 3629: which bytes begin a well-formed character (section 4), and the number that it stands for (section 3).
 -- A text is a list of bytes. A byte past its end reads as 0, which is no UTF8-tail, so no rule asks for a length.
-use Prim.Native.Nat.{ℕ, zero, suc, _+_, _-_, _*_, _%_}
-use mathlib.Core.List.{List, [], _∷_}
+use Prim.Native.Nat.{ℕ, zero, suc, _+_, _-_, _*_, _%_, _≤_}
+use mathlib.Core.List.{List, [], _∷_, _++_}
 use mathlib.Core.Bool.{Bool, cond, _&&_, _||_}
 use lib.ListN.{length, getD, take}
 use lib.Dec.{leb, eqb}
@@ -44,6 +44,18 @@ formed a b c d = cond (utf8One a) 1 (cond (utf8Two a b) 2 (cond (utf8Three a b c
 abbrev pub wellFormed : List ℕ → ℕ
 wellFormed s = formed (getD s 0 0) (getD s 1 0) (getD s 2 0) (getD s 3 0)
 
+-- Document 02, #105: a run of bytes "begins some well-formed character" where bytes can follow with which it does, and it has all of the run.
+abbrev pub Begins : List ℕ → Type 0
+Begins run = (rest : List ℕ) × (length run ≤ wellFormed (run ++ rest))
+
+-- "the longest run of bytes there that begins some well-formed character, or one byte if there is none", where none is whole: three bytes, if one
+-- tail more makes a character of them, or two, if one or two do. Any tail does if one does, so 80 is asked. `longest-run` proves that this is it.
+unfoldable pub begun : ℕ → ℕ → ℕ → ℕ
+begun a b c = cond (utf8Four a b c 0x80) 3 (cond (utf8Three a b 0x80 || utf8Four a b 0x80 0x80) 2 1)
+
+abbrev pub brokenLength : List ℕ → ℕ
+brokenLength s = begun (getD s 0 0) (getD s 1 0) (getD s 2 0)
+
 -- Section 3: the low bits of each byte, put together; by the character's length.
 unfoldable pub codeOf : ℕ → List ℕ → ℕ
 codeOf w s =
@@ -64,14 +76,14 @@ pub record Char : Type 0 where
 abbrev pub width : Char → ℕ
 width c = length (c .bytes)
 
--- Document 01, "Numbers that come back": a byte that begins no well-formed character is one character of one byte and of no class.
+-- Document 01, "Numbers that come back": what begins no well-formed character is one character of no class. #105: it is that run, or that byte.
 -- Its code is past every code point.
 abbrev pub noCode : ℕ
 noCode = 0x110000
 
--- The character of length w that a text begins with; one byte where w is 0.
+-- The character of length w that a text begins with; a broken one where w is 0.
 unfoldable pub charOf : ℕ → List ℕ → Char
-charOf zero s = record { code = noCode; bytes = take 1 s }
+charOf zero s = record { code = noCode; bytes = take (brokenLength s) s }
 charOf (suc w) s = record { code = codeOf (suc w) s; bytes = take (suc w) s }
 
 -- The character at the front of a text.

@@ -6,9 +6,9 @@ use native.Mathlib.Nat.{not-suc-le-zero}
 use native.Mathlib.Omega.{arith}
 use lib.ListN.{length, drop, drop-of-length-le, length-drop}
 use lib.Seq.{drop-drop}
-use Rattle.rules.specs.Utf8.{width, noCode, wellFormed, codeOf, charOf, charAt, charsAfter, chars}
+use Rattle.rules.specs.Utf8.{width, noCode, wellFormed, brokenLength, codeOf, charOf, charAt, charsAfter, chars}
 use Rattle.rules.specs.Lexeme.{first}
-use Rattle.rules.proofs.Decoding.{ends-within, width-broken, width-formed, chars-cons}
+use Rattle.rules.proofs.Decoding.{ends-within, broken-range, broken-within, width-broken, width-formed, chars-cons}
 use Rattle.utf8.specs.declared.Unit.{Unit as AnyUnit}
 use Rattle.utf8.specs.declared.Unit.the-variants as unit
 use Rattle.utf8.specs.Units.{unitOf, unitAt, unitCode, unitLen}
@@ -18,7 +18,7 @@ pub unit-end : (s : List ℕ) (i : ℕ) → length s ≤ i → unitAt (drop i s)
 unfolding unitAt
 unit-end s i h = rw (drop-of-length-le s h)
 
-pub unit-broken : (t : List ℕ) (n : ℕ) → 0 < length t → n ≡ wellFormed t → n ≡ 0 → unitAt t ≡ unit.Broken
+pub unit-broken : (t : List ℕ) (n : ℕ) → 0 < length t → n ≡ wellFormed t → n ≡ 0 → unitAt t ≡ unit.Broken (brokenLength t)
 unfolding unitAt
 unit-broken [] n h e z = absurd (not-suc-le-zero h)
 unit-broken (b ∷ s) n h e z = ap (λ (w : ℕ). unitOf w (b ∷ s)) (sym e ∙ z)
@@ -41,9 +41,9 @@ module _ (t : List ℕ) (h : 0 < length t) where
   here : (c n : ℕ) → charAt t .code ≡ c → width (charAt t) ≡ n → 0 < n → n ≤ length t → Here t c n
   here c n e l p u = record { code = e; size = l; some = p; upto = u; rest = chars-cons t h ∙ ap (λ (n : ℕ). charAt t ∷ chars (drop n t)) l }
 
-  broken-here : wellFormed t ≡ 0 → Here t noCode 1
+  broken-here : wellFormed t ≡ 0 → Here t noCode (brokenLength t)
   unfolding charOf
-  broken-here e = here noCode 1 (ap (λ (w : ℕ). charOf w t .code) e) (width-broken t h e) (omega arith) (omega arith)
+  broken-here e = here noCode (brokenLength t) (ap (λ (w : ℕ). charOf w t .code) e) (width-broken t h e) (broken-range t .0) (broken-within t h)
 
   char-here : (w : ℕ) → wellFormed t ≡ suc w → Here t (codeOf (suc w) t) (suc w)
   unfolding charOf
@@ -67,13 +67,13 @@ char-unit (b ∷ s) c n e = go (wellFormed (b ∷ s)) refl e
         let en : suc w ≡ n = cc in
         rw en at (rw ec at (char-here (b ∷ s) (omega arith) w f))
 
-pub broken-unit : (t : List ℕ) → unitAt t ≡ unit.Broken → Here t noCode 1
+pub broken-unit : (t : List ℕ) (n : ℕ) → unitAt t ≡ unit.Broken n → Here t noCode n
 unfolding unitAt
-broken-unit [] e = clash (cc)
-broken-unit (b ∷ s) e = go (wellFormed (b ∷ s)) refl e
+broken-unit [] n e = clash (cc)
+broken-unit (b ∷ s) n e = go (wellFormed (b ∷ s)) refl e
   where
-    go : (w : ℕ) → wellFormed (b ∷ s) ≡ w → unitOf w (b ∷ s) ≡ unit.Broken → Here (b ∷ s) noCode 1
-    go zero f e = broken-here (b ∷ s) (omega arith) f
+    go : (w : ℕ) → wellFormed (b ∷ s) ≡ w → unitOf w (b ∷ s) ≡ unit.Broken n → Here (b ∷ s) noCode n
+    go zero f e = let en : brokenLength (b ∷ s) ≡ n = cc in rw en at (broken-here (b ∷ s) (omega arith) f)
     go (suc w) f e = clash (cc)
 
 pub end-unit : (t : List ℕ) → unitAt t ≡ unit.End → t ≡ []
@@ -110,5 +110,5 @@ unit-width t h = go (unitAt t) refl
   where
     go : (u : AnyUnit) → unitAt t ≡ u → unitLen u ≡ width (charAt t)
     go (unit.Char c n) e = sym (char-unit t c n e .size)
-    go unit.Broken e = sym (broken-unit t e .size)
+    go (unit.Broken n) e = sym (broken-unit t n e .size)
     go unit.End e = absurd (let z = ap length (end-unit t e) in omega arith)

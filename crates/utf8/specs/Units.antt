@@ -5,13 +5,13 @@ use mathlib.Core.List.{List, [], _∷_}
 use mathlib.Core.Bool.{Bool, not, cond, _&&_, _||_}
 use lib.Dec.{leb, eqb}
 use lib.ListN.{length, getD, drop}
-use Rattle.rules.specs.Utf8.{within, utf8Tail, noCode, wellFormed, codeOf, validLength}
+use Rattle.rules.specs.Utf8.{within, utf8Tail, noCode, wellFormed, brokenLength, codeOf, validLength}
 use Rattle.utf8.specs.declared.Unit.{Unit}
 use Rattle.utf8.specs.declared.Unit.the-variants.{Char, Broken, End}
 
--- A character of length w that a text begins with; a byte that begins none where w is 0.
+-- A character of length w that a text begins with; a broken one where w is 0.
 abbrev pub unitOf : ℕ → List ℕ → Unit
-unitOf zero s = Broken
+unitOf zero s = Broken (brokenLength s)
 unitOf (suc w) s = Char (codeOf (suc w) s) (suc w)
 
 -- What a text begins with.
@@ -22,13 +22,13 @@ unitAt (b ∷ s) = unitOf (wellFormed (b ∷ s)) (b ∷ s)
 -- The code of a unit; of no character, a code past all of them.
 abbrev pub unitCode : Unit → ℕ
 unitCode (Char c n) = c
-unitCode Broken = noCode
+unitCode (Broken n) = noCode
 unitCode End = noCode
 
 -- The bytes of a unit.
 abbrev pub unitLen : Unit → ℕ
 unitLen (Char c n) = n
-unitLen Broken = 1
+unitLen (Broken n) = n
 unitLen End = 0
 
 -- The text is well-formed from i to j: what is valid from i on ends where what is valid from j on does.

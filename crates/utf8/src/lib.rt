@@ -3,12 +3,13 @@ ghost use mathlib.Core.Path.{_≡_};
 ghost use mathlib.Core.Bool.{true, _&&_};
 ghost use Prim.Native.Nat.{ℕ, _+_, _%_, _≤_, _<_};
 ghost use lib.ListN.{length, getD, drop};
-ghost use Rattle.rules.specs.Utf8.{within, utf8Tail, utf8Three, utf8Four, wellFormed, codeOf, validLength};
+ghost use Rattle.rules.specs.Utf8.{within, utf8Tail, utf8Three, utf8Four, wellFormed, brokenLength, codeOf, validLength};
 ghost use Rattle.utf8.specs.Units.{unitAt, unitCode, unitLen, Passes, afterTail, afterTails, takesTail};
 
 pub enum Unit {
     Char { code: u32, len: usize },
-    Broken,
+    // No character begins here, but `len` bytes that begin one, or a byte that begins none.
+    Broken { len: usize },
     End,
 }
 
@@ -103,6 +104,25 @@ fn formed_at(s: &[u8], j: usize) -> usize
     }
 }
 
+// The length of the broken character at j, where no whole one begins. Of bytes that are tests of more to come, 80 stands for any tail.
+fn begun_at(s: &[u8], j: usize) -> usize
+    requires { ⌜ j < length (now s) ⌝ }
+    ensures { λ r. ⌜ r ≡ brokenLength (drop j (now (s .entry))) ⌝ }
+{
+    let a = s[j];
+    if a < 0xE0 {
+        return 1;
+    }
+    let b = byte_at(s, j + 1);
+    if a < 0xF0 {
+        return if is_three(a, b, 0x80) { 2 } else { 1 };
+    }
+    if !is_second(a, b) {
+        return 1;
+    }
+    if is_tail(byte_at(s, j + 2)) { 3 } else { 2 }
+}
+
 // The low six bits of the byte at i, or 0 past the end.
 fn low_at(s: &[u8], i: usize) -> u32
     ensures { λ r. ⌜ r ≡ getD (now (s .entry)) i 0 % 64 ⌝ }
@@ -139,7 +159,9 @@ pub fn unit_at(s: &[u8], i: usize) -> Unit
     }
     let len = formed_at(s, i);
     if len == 0 {
-        return Unit::Broken;
+        return Unit::Broken {
+            len: begun_at(s, i),
+        };
     }
     Unit::Char {
         code: code_at(s, i, len),
@@ -153,7 +175,7 @@ pub fn unit_code(u: Unit) -> u32
 {
     match u {
         Unit::Char { code, len: _ } => code,
-        Unit::Broken => 0x110000,
+        Unit::Broken { len: _ } => 0x110000,
         Unit::End => 0x110000,
     }
 }
@@ -164,7 +186,7 @@ pub fn unit_len(u: Unit) -> usize
 {
     match u {
         Unit::Char { code: _, len } => len,
-        Unit::Broken => 1,
+        Unit::Broken { len } => len,
         Unit::End => 0,
     }
 }
@@ -178,7 +200,7 @@ pub fn len_at(s: &[u8], i: usize) -> usize
         return 0;
     }
     let n = formed_at(s, i);
-    if n == 0 { 1 } else { n }
+    if n == 0 { begun_at(s, i) } else { n }
 }
 
 // True only if the next 8 bytes are ASCII.

@@ -14,12 +14,15 @@ returns c = let x = c .before .before .args in sym (unit-end (now (x .s)) (x .i)
 formed-at-requires : tie.Need-formed-at-requires
 formed-at-requires c κs = search needs
 
+begun-at-requires : tie.Need-begun-at-requires
+begun-at-requires c κs = search needs
+
 returns-2 : tie.Need-returns-2
 returns-2 c =
-    let x = c .before .before .before .before .args in
+    let x = c .before .before .before .before .before .args in
     let t = drop (x .i) (now (x .s)) in
     let l = length-drop (x .i) (now (x .s)) in
-    sym (unit-broken t _ (omega arith) (c .before .formed-at .ensures) (omega arith))
+    cc (unit-broken t _ (omega arith) (c .before .before .formed-at .ensures) (omega arith))
 
 code-at-requires : tie.Need-code-at-requires
 code-at-requires c κs = search needs
@@ -32,4 +35,4 @@ returns-3 c =
     cc (unit-char t _ (omega arith) (c .before .before .formed-at .ensures) (λ z. omega (arith, c .before .if2 .left)))
 
 pub unit-at-spec : {M : Type 1} → statement M
-unit-at-spec = tie.close (tie.spec returns formed-at-requires returns-2 code-at-requires returns-3)
+unit-at-spec = tie.close (tie.spec returns formed-at-requires begun-at-requires returns-2 code-at-requires returns-3)
