@@ -11,9 +11,9 @@ use Rattle.rules.specs.Characters.{lineFeed, carriageReturn}
 use Rattle.rules.specs.Places.{endsLine}
 use Rattle.spans.specs.Sums.{bit, between, endAt, surplusAt, marked, markAt, Within}
 use Rattle.spans.specs.declared.places.Mark.{Mark}
-use Rattle.spans.specs.declared.places.Mark.the-variants.{End, Two, Three, Four, Plain, Odd, Middle}
+use Rattle.spans.specs.declared.places.Mark.the-variants.{End, Lead, Two, Second, Third, OddThree, OddFour}
 use Rattle.spans.proofs.Sums.{sum-zero, sum-same, sum-some, sum-plus, sum-twice, sum-most}
-use Rattle.spans.proofs.Surplus.{surplus-most, surplus-low, surplus-two, surplus-three, surplus-plain, surplus-four, middle-none}
+use Rattle.spans.proofs.Surplus.{surplus-most, surplus-low, surplus-two, surplus-parts, surplus-three, surplus-four}
 
 bit-most : (t : Bool) → bit t ≤ 1
 bit-most true = omega arith
@@ -37,32 +37,23 @@ module _ (s : List ℕ) (i j : ℕ) (h : j ≤ length s) where
   pub block-two : Below 0xE0 → between (surplusAt s) i j ≡ marks Two
   block-two p = sum-same (surplusAt s) i (markAt Two s) j (λ k l u. surplus-two s k (omega arith) (p k l u))
 
-  both : between (λ k. markAt Two s k + 2 * markAt Three s k) i j ≡ marks Two + 2 * marks Three
-  both = omega (arith, sum-plus (markAt Two s) i (λ k. 2 * markAt Three s k) j, sum-twice (markAt Three s) i j)
+  pub block-parts : between (surplusAt s) i j ≡ marks Second + marks Third
+  block-parts =
+      sum-same (surplusAt s) i (λ k. markAt Second s k + markAt Third s k) j (λ k l u. surplus-parts s k (omega arith))
+      ∙ sum-plus (markAt Second s) i (markAt Third s) j
 
-  pub block-three : Below 0xF0 → between (surplusAt s) i j ≡ marks Two + 2 * marks Three
-  block-three p = sum-same (surplusAt s) i (λ k. markAt Two s k + 2 * markAt Three s k) j (λ k l u. surplus-three s k (omega arith) (p k l u)) ∙ both
+  -- where no lead is odd
+  twice : (odd : Mark) → marks odd ≡ 0 → ((k : ℕ) → i ≤ k → k < j → marked odd (getD s k 0) (getD s (k + 1) 0) (getD s (k + 2) 0) ≡ false → surplusAt s k ≡ 2 * markAt Lead s k)
+      → between (surplusAt s) i j ≡ 2 * marks Lead
+  twice odd o f =
+      sum-same (surplusAt s) i (λ k. 2 * markAt Lead s k) j (λ k l u. f k l u (bit-none _ (omega (arith, sum-some (markAt odd s) i j k l u))))
+      ∙ sum-twice (markAt Lead s) i j
 
-  pub block-plain : Below 0xF0 → marks Odd ≡ 0 → between (surplusAt s) i j ≡ 2 * marks Plain
-  block-plain p o =
-      sum-same (surplusAt s) i (λ k. 2 * markAt Plain s k) j (λ k l u. surplus-plain s k (omega arith) (p k l u) (bit-none _ (omega (arith, sum-some (markAt Odd s) i j k l u))))
-      ∙ sum-twice (markAt Plain s) i j
+  pub block-three : Below 0xF0 → marks OddThree ≡ 0 → between (surplusAt s) i j ≡ 2 * marks Lead
+  block-three p o = twice OddThree o (λ k l u. surplus-three s k (omega arith) (p k l u))
 
-  pub block-four : Below 0xF1 → between (surplusAt s) i j ≡ (marks Two + 2 * marks Three) + 2 * marks Four
-  block-four p =
-      omega (
-        arith,
-        sum-same (surplusAt s) i (λ k. (markAt Two s k + 2 * markAt Three s k) + 2 * markAt Four s k) j (λ k l u. surplus-four s k (omega arith) (omega (arith, p k l u))),
-        sum-plus (λ k. markAt Two s k + 2 * markAt Three s k) i (λ k. 2 * markAt Four s k) j,
-        both,
-        sum-twice (markAt Four s) i j,
-      )
-
-  middle : marks Middle ≡ 0 → (k : ℕ) → i ≤ k → k < j → (markAt Two s k ≡ 0) × (markAt Three s k ≡ 0)
-  middle m k l u = middle-none s k (omega arith) (bit-none _ (omega (arith, sum-some (markAt Middle s) i j k l u)))
-
-  pub block-middle : i ≤ j → marks Middle ≡ 0 → (marks Two ≡ 0) × (marks Three ≡ 0)
-  block-middle o m = (sum-zero (markAt Two s) i j o (λ k l u. middle m k l u .0), sum-zero (markAt Three s) i j o (λ k l u. middle m k l u .1))
+  pub block-four : marks OddFour ≡ 0 → between (surplusAt s) i j ≡ 2 * marks Lead
+  block-four o = twice OddFour o (λ k l u. surplus-four s k (omega arith))
 
   pub block-most : i ≤ j → between (surplusAt s) i j ≤ 2 * (j - i)
   block-most o = sum-most (surplusAt s) i 2 j o (λ k l u. surplus-most s k (omega arith))

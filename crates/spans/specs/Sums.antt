@@ -1,15 +1,15 @@
 -- What the places are added up from, byte by byte.
-use Prim.Native.Nat.{ℕ, zero, suc, _+_, _-_, _*_, _≤_, _<_}
+use Prim.Native.Nat.{ℕ, zero, suc, _+_, _-_, _≤_, _<_}
 use mathlib.Core.Path.{_≡_}
 use mathlib.Core.List.{List}
 use mathlib.Core.Logic.{_⊎_}
-use mathlib.Core.Bool.{Bool, cond, _&&_, _||_}
+use mathlib.Core.Bool.{Bool, not, cond, _&&_, _||_}
 use lib.Dec.{leb, eqb}
 use lib.ListN.{length, getD, drop}
-use Rattle.rules.specs.Utf8.{within, utf8Tail, utf8Two, utf8Three, width, charAt}
+use Rattle.rules.specs.Utf8.{within, utf8Tail, utf8Two, width, charAt}
 use Rattle.rules.specs.Places.{units, endsLine}
 use Rattle.spans.specs.declared.places.Mark.{Mark}
-use Rattle.spans.specs.declared.places.Mark.the-variants.{End, Two, Three, Four, Plain, Odd, Middle}
+use Rattle.spans.specs.declared.places.Mark.the-variants.{End, Lead, Two, Second, Third, OddThree, OddFour}
 
 -- The sum of a function over n indices, from i on.
 unfoldable pub sumOver : (ℕ → ℕ) → ℕ → ℕ → ℕ
@@ -32,31 +32,29 @@ endAt s i = bit (endsLine (getD s i 0) (getD s (i + 1) 0))
 abbrev pub surplusAt : List ℕ → ℕ → ℕ
 surplusAt s i = width (charAt (drop i s)) - units (charAt (drop i s))
 
--- The first form of UTF8-4: %xF0 %x90-BF 2( UTF8-tail )
-abbrev pub firstFour : ℕ → ℕ → ℕ → ℕ → Bool
-firstFour a b c d = eqb a 0xF0 && within 0x90 0xBF b && utf8Tail c && utf8Tail d
+-- A second byte that goes on with what the first begins: a tail, which E0, ED, F0 and F4 bound more.
+abbrev pub goesOn : ℕ → ℕ → Bool
+goesOn a b =
+    (within 0xC2 0xF4 a && utf8Tail b)
+    && (((not (eqb a 0xE0) || leb 0xA0 b) && (not (eqb a 0xED) || leb b 0x9F)) && ((not (eqb a 0xF0) || leb 0x90 b) && (not (eqb a 0xF4) || leb b 0x8F)))
 
--- What is left of UTF8-3 where the first byte is below F0 and is not odd
-abbrev pub plainThree : ℕ → ℕ → ℕ → Bool
-plainThree a b c = leb 0xE0 a && utf8Tail b && utf8Tail c
-
--- What a mark says of a byte and the three after it.
-unfoldable pub marked : Mark → ℕ → ℕ → ℕ → ℕ → Bool
-marked End a b c d = endsLine a b
-marked Two a b c d = utf8Two a b
-marked Three a b c d = utf8Three a b c
-marked Four a b c d = firstFour a b c d
-marked Plain a b c d = plainThree a b c
-marked Odd a b c d = within 0xC2 0xE0 a || eqb a 0xED
-marked Middle a b c d = within 0xC2 0xEF a
+-- What a mark says of a byte and the two after it.
+unfoldable pub marked : Mark → ℕ → ℕ → ℕ → Bool
+marked End a b c = endsLine a b
+marked Lead a b c = leb 0xC2 a
+marked Two a b c = utf8Two a b
+marked Second a b c = goesOn a b
+marked Third a b c = (goesOn a b && leb 0xE0 a) && utf8Tail c
+marked OddThree a b c = leb 0xC2 a && not ((leb 0xE1 a && not (eqb a 0xED)) && (utf8Tail b && utf8Tail c))
+marked OddFour a b c = leb 0xC2 a && not ((eqb a 0xF0 && within 0x90 0xBF b) && utf8Tail c)
 
 -- 1 where the byte is marked.
 abbrev pub markAt : Mark → List ℕ → ℕ → ℕ
-markAt mark s i = bit (marked mark (getD s i 0) (getD s (i + 1) 0) (getD s (i + 2) 0) (getD s (i + 3) 0))
+markAt mark s i = bit (marked mark (getD s i 0) (getD s (i + 1) 0) (getD s (i + 2) 0))
 
--- What characters of two bytes and of three have more of bytes than of units.
-abbrev pub twosAndThrees : List ℕ → ℕ → ℕ → ℕ
-twosAndThrees s i j = between (markAt Two s) i j + 2 * between (markAt Three s) i j
+-- What all characters have more of bytes than of units: whole ones of four bytes, which have two units, as much as cut ones of three.
+abbrev pub secondsAndThirds : List ℕ → ℕ → ℕ → ℕ
+secondsAndThirds s i j = between (markAt Second s) i j + between (markAt Third s) i j
 
 -- Each byte between two indices is between two others.
 pub record Within (s : List ℕ) (from upto least most : ℕ) : Type 0 where

@@ -9,12 +9,12 @@ use utf8::len_at;
 ghost use mathlib.Core.Path.{_≡_};
 ghost use Prim.Native.Nat.{ℕ, _+_, _≤_, _<_};
 ghost use lib.ListN.{length, getD};
-ghost use Rattle.rules.specs.Utf8.{utf8Two, utf8Three};
+ghost use Rattle.rules.specs.Utf8.{utf8Two};
 ghost use Rattle.rules.specs.Limits.{maxQuerySize};
 ghost use Rattle.rules.specs.Places.{endsLine};
 ghost use Rattle.rules.specs.Answers.{placeAt};
 ghost use Rattle.spans.specs.Placed.{placed};
-ghost use Rattle.spans.specs.Sums.{between, twosAndThrees, firstFour, plainThree, marked, markAt, endAt, surplusAt, Within, Starts, Edge};
+ghost use Rattle.spans.specs.Sums.{between, secondsAndThirds, goesOn, marked, markAt, endAt, surplusAt, Within, Starts, Edge};
 
 // What `place` gives: document 01's number and value, and the place.
 pub struct Placed {
@@ -24,22 +24,22 @@ pub struct Placed {
     pub column: usize,
 }
 
-// What is counted in a block, told by a byte and the three after it.
+// What is counted in a block, told by a byte and the two after it.
 pub enum Mark {
     // A line end, at the byte that it ends with.
     End,
-    // A character of two bytes,
+    // A byte that begins two bytes or more, or is in no character.
+    Lead,
+    // A character of two bytes.
     Two,
-    // of three,
-    Three,
-    // and of four, of those that begin with F0.
-    Four,
-    // A byte of E0 or more with two tails after it: where it is below F0 and not odd, a character of three bytes.
-    Plain,
-    // A byte that begins two bytes, or begins three and bounds the second more than a tail is bounded.
-    Odd,
-    // A byte that begins two bytes or three.
-    Middle,
+    // A second byte of a character, whole or cut,
+    Second,
+    // and a third: both are told at the first byte.
+    Third,
+    // A lead, but where the greatest is below F0, for one of three bytes whose second no bound but a tail's holds,
+    OddThree,
+    // and for one of F0 with three bytes of its own.
+    OddFour,
 }
 
 // The line that an index is in: where it starts, and what its characters before the index have more of bytes than of units.
@@ -66,44 +66,37 @@ fn is_two(a: u8, b: u8) -> bool
     ((0xC2 <= a) & (a <= 0xDF)) & is_tail(b)
 }
 
-// No test is a jump, here and in the next, so that a block's become one.
-fn is_three(a: u8, b: u8, c: u8) -> bool
-    ensures { λ r. ⌜ r ≡ utf8Three a b c ⌝ }
+// The second byte goes on with what the first begins. No test is a jump, here and in the next, so that a block's become one.
+fn goes_on(a: u8, b: u8) -> bool
+    ensures { λ r. ⌜ r ≡ goesOn a b ⌝ }
 {
-    let second = ((a != 0xE0) | (0xA0 <= b)) & ((a != 0xED) | (b <= 0x9F));
-    ((0xE0 <= a) & (a <= 0xEF)) & ((is_tail(b) & is_tail(c)) & second)
+    let three = ((a != 0xE0) | (0xA0 <= b)) & ((a != 0xED) | (b <= 0x9F));
+    let four = ((a != 0xF0) | (0x90 <= b)) & ((a != 0xF4) | (b <= 0x8F));
+    (((0xC2 <= a) & (a <= 0xF4)) & is_tail(b)) & (three & four)
 }
 
-fn is_first_four(a: u8, b: u8, c: u8, d: u8) -> bool
-    ensures { λ r. ⌜ r ≡ firstFour a b c d ⌝ }
-{
-    (a == 0xF0) & ((0x90 <= b) & (b <= 0xBF)) & is_tail(c) & is_tail(d)
-}
-
-fn is_plain(a: u8, b: u8, c: u8) -> bool
-    ensures { λ r. ⌜ r ≡ plainThree a b c ⌝ }
-{
-    (0xE0 <= a) & is_tail(b) & is_tail(c)
-}
-
-fn is_marked(mark: Mark, a: u8, b: u8, c: u8, d: u8) -> bool
-    ensures { λ r. ⌜ r ≡ marked mark a b c d ⌝ }
+fn is_marked(mark: Mark, a: u8, b: u8, c: u8) -> bool
+    ensures { λ r. ⌜ r ≡ marked mark a b c ⌝ }
 {
     match mark {
         Mark::End => ends_line(a, b),
+        Mark::Lead => 0xC2 <= a,
         Mark::Two => is_two(a, b),
-        Mark::Three => is_three(a, b, c),
-        Mark::Four => is_first_four(a, b, c, d),
-        Mark::Plain => is_plain(a, b, c),
-        Mark::Odd => ((0xC2 <= a) & (a <= 0xE0)) | (a == 0xED),
-        Mark::Middle => (0xC2 <= a) & (a <= 0xEF),
+        Mark::Second => goes_on(a, b),
+        Mark::Third => (goes_on(a, b) & (0xE0 <= a)) & is_tail(c),
+        Mark::OddThree => {
+            (0xC2 <= a) & !(((0xE1 <= a) & (a != 0xED)) & (is_tail(b) & is_tail(c)))
+        }
+        Mark::OddFour => {
+            (0xC2 <= a) & !(((a == 0xF0) & ((0x90 <= b) & (b <= 0xBF))) & is_tail(c))
+        }
     }
 }
 
 // How many there are in the 128 bytes of a block, so that a byte holds it: the compiler adds 16 of these at once. It knows the mark at each
-// call. The three bytes after the block are read too.
+// call. The two bytes after the block are read too.
 fn count(text: &[u8], from: usize, mark: Mark) -> u8
-    requires { ⌜ from + 131 ≤ length (now text) ⌝ }
+    requires { ⌜ from + 130 ≤ length (now text) ⌝ }
     ensures { λ r. ⌜ r ≡ between (markAt mark (now (text .entry))) from (from + 128) ⌝ }
 {
     let mut n: u8 = 0;
@@ -114,7 +107,6 @@ fn count(text: &[u8], from: usize, mark: Mark) -> u8
             text[from + k],
             text[from + k + 1],
             text[from + k + 2],
-            text[from + k + 3],
         ) {
             n += 1;
         }
@@ -155,31 +147,17 @@ fn surplus_at(text: &[u8], i: usize) -> usize
     if len == 4 { 2 } else { len - 1 }
 }
 
-// The same from one index to another, byte by byte.
-fn surplus_by_byte(text: &[u8], from: usize, upto: usize) -> usize
-    requires { ⌜ (from ≤ upto) × (upto ≤ length (now text)) × (length (now text) ≤ maxQuerySize) ⌝ }
-    ensures { λ r. ⌜ r ≡ between (surplusAt (now (text .entry))) from upto ⌝ }
+// What all characters have more, over a block: a byte for each second, and one for each third. A fourth has a unit of its own.
+fn seconds_and_thirds(text: &[u8], from: usize) -> usize
+    requires { ⌜ from + 130 ≤ length (now text) ⌝ }
+    ensures { λ r. ⌜ r ≡ secondsAndThirds (now (text .entry)) from (from + 128) ⌝ }
 {
-    let mut n = 0;
-    let mut i = from;
-    while i < upto {
-        n += surplus_at(text, i);
-        i += 1;
-    }
-    n
+    count(text, from, Mark::Second) as usize + count(text, from, Mark::Third) as usize
 }
 
-// What characters of two bytes and of three have more, over a block.
-fn up_to_three(text: &[u8], from: usize) -> usize
-    requires { ⌜ from + 131 ≤ length (now text) ⌝ }
-    ensures { λ r. ⌜ r ≡ twosAndThrees (now (text .entry)) from (from + 128) ⌝ }
-{
-    count(text, from, Mark::Two) as usize + 2 * count(text, from, Mark::Three) as usize
-}
-
-// What all characters have more, over a block, in the way that its greatest byte allows.
+// The same, in a shorter way where the block's greatest byte and its leads allow it.
 fn surplus_of_block(text: &[u8], from: usize, most: u8) -> usize
-    requires { ⌜ (from + 131 ≤ length (now text)) × (length (now text) ≤ maxQuerySize) × ((k : ℕ) → from ≤ k → k < from + 128 → getD (now text) k 0 ≤ most) ⌝ }
+    requires { ⌜ (from + 130 ≤ length (now text)) × ((k : ℕ) → from ≤ k → k < from + 128 → getD (now text) k 0 ≤ most) ⌝ }
     ensures { λ r. ⌜ r ≡ between (surplusAt (now (text .entry))) from (from + 128) ⌝ }
 {
     if most < 0xC2 {
@@ -189,18 +167,15 @@ fn surplus_of_block(text: &[u8], from: usize, most: u8) -> usize
         return count(text, from, Mark::Two) as usize;
     }
     if most < 0xF0 {
-        if count(text, from, Mark::Odd) == 0 {
-            return 2 * count(text, from, Mark::Plain) as usize;
+        if count(text, from, Mark::OddThree) == 0 {
+            return 2 * count(text, from, Mark::Lead) as usize;
         }
-        return up_to_three(text, from);
+        return seconds_and_thirds(text, from);
     }
-    if most == 0xF0 {
-        if count(text, from, Mark::Middle) == 0 {
-            return 2 * count(text, from, Mark::Four) as usize;
-        }
-        return up_to_three(text, from) + 2 * count(text, from, Mark::Four) as usize;
+    if count(text, from, Mark::OddFour) == 0 {
+        return 2 * count(text, from, Mark::Lead) as usize;
     }
-    surplus_by_byte(text, from, from + 128)
+    seconds_and_thirds(text, from)
 }
 
 // A line ends with the byte at i.
@@ -218,7 +193,7 @@ fn line_ends(text: &[u8], upto: usize) -> usize
 {
     let mut n = 0;
     let mut i = 0;
-    while upto - i >= 131 {
+    while upto - i >= 130 {
         n += count(text, i, Mark::End) as usize;
         i += 128;
     }
@@ -254,15 +229,15 @@ fn line_by_byte(text: &[u8], from: usize, upto: usize) -> Line
     }
 }
 
-// The same as far as the text's start, by blocks. A block is read with the three bytes after it, so a text's last three come first.
+// The same as far as the text's start, by blocks. A block is read with the two bytes after it, so a text's last two come first.
 fn line_before(text: &[u8], upto: usize) -> Line
     requires { ⌜ (upto ≤ length (now text)) × (length (now text) ≤ maxQuerySize) ⌝ }
     ensures { λ r. ⌜ Starts (now (text .entry)) 0 upto (r .start) (r .surplus) ⌝ }
 {
     let mut n = 0;
     let mut i = upto;
-    if text.len() - upto < 3 {
-        let from = if upto < 3 { 0 } else { upto - 3 };
+    if text.len() - upto < 2 {
+        let from = if upto < 2 { 0 } else { upto - 2 };
         let last = line_by_byte(text, from, upto);
         if from < last.start {
             return last;

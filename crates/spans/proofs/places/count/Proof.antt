@@ -18,12 +18,12 @@ abbrev μ-loop : tie.MeasureT-loop
 -- a mark is counted, and nothing else is
 turn : (c : tie.Joined1 Inv-loop μ-loop)
     → let t = c .before in
-    let l = t .before .before .before .before .before .before in
+    let l = t .before .before .before .before .before in
     let x = l .before .before .args in
     (c .if1 .n ≤ l .loop .k + 1) × (c .if1 .n ≡ between (markAt (x .mark) (now (x .text))) (x .from) (x .from + (l .loop .k + 1)))
 turn c =
     let t = c .before in
-    let l = t .before .before .before .before .before .before in
+    let l = t .before .before .before .before .before in
     let x = l .before .before .args in
     let next = sum-more (markAt (x .mark) (now (x .text))) (x .from) (l .loop .k) in
     ⊎-elim
@@ -45,9 +45,6 @@ count-spec =
     Inv-loop
     μ-loop
     (λ c. (omega arith, omega arith, sym (sum-start _ _)))
-    (λ c. omega arith)
-    (λ c. omega arith)
-    (λ c. omega arith)
     (λ c. omega arith)
     (λ c. omega arith)
     (λ c. omega arith)

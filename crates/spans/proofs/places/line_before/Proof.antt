@@ -13,7 +13,7 @@ use Rattle.spans.proofs.places.line_before.Statement.{statement}
 use Rattle.spans.proofs.places.line_before.Tie as tie
 
 abbrev Inv-loop : tie.InvT-loop
-Inv-loop text upto n₀ i₀ n i = (i ≤ upto) × (128 ≤ i → i + 3 ≤ length text) × (between (endAt text) i upto ≡ 0) × (n ≡ between (surplusAt text) i upto)
+Inv-loop text upto n₀ i₀ n i = (i ≤ upto) × (128 ≤ i → i + 2 ≤ length text) × (between (endAt text) i upto ≡ 0) × (n ≡ between (surplusAt text) i upto)
 
 abbrev μ-loop : tie.MeasureT-loop
 μ-loop text upto n₀ i₀ n i = i
@@ -21,7 +21,7 @@ abbrev μ-loop : tie.MeasureT-loop
 -- where the last three bytes begin
 from-is : (c : tie.Joined2 Inv-loop μ-loop)
     → let x = c .before .before .before .args in
-    (c .if2 .from ≤ x .upto) × (128 ≤ c .if2 .from → c .if2 .from + 3 ≤ x .upto)
+    (c .if2 .from ≤ x .upto) × (128 ≤ c .if2 .from → c .if2 .from + 2 ≤ x .upto)
 from-is c = ⊎-elim (λ w. (omega (arith, w .1), λ h. omega (arith, w .1))) (λ w. (omega (arith, w .1), λ h. omega (arith, w .1))) (c .if2 .came)
 
 returns : tie.Need-returns Inv-loop μ-loop
@@ -48,7 +48,7 @@ count-requires c κs = let l = c .before .before .before .before .before in omeg
 surplus-of-block-requires : tie.Need-surplus-of-block-requires Inv-loop μ-loop
 surplus-of-block-requires c κs =
     let l = c .before .before .before .before .before in
-    (omega (arith, l .loop .inv .1 (omega arith)), omega arith, c .before .before .extent-of-block .ensures .high)
+    (omega (arith, l .loop .inv .1 (omega arith)), c .before .before .extent-of-block .ensures .high)
 
 -- no line ends in the block
 quiet : (c : tie.Joined4 Inv-loop μ-loop)

@@ -1,11 +1,10 @@
 -- `spans::places::surplus_of_block` meets its contract: a law of the block for each way. Assumes nothing.
-use Prim.Native.Nat.{ℕ, _+_, _*_, _≤_, _<_}
+use Prim.Native.Nat.{ℕ, _+_, _*_}
 use native.Mathlib.Omega.{arith}
-use mathlib.Core.Path.{_≡_, sym, ap, _∙_}
+use mathlib.Core.Path.{sym, ap, _∙_}
 use denote.Ref.{now}
 use borrow.Author.Needs.{needs}
-use Rattle.spans.specs.Sums.{between, surplusAt}
-use Rattle.spans.proofs.Blocks.{block-low, block-two, block-three, block-plain, block-four, block-middle, block-most}
+use Rattle.spans.proofs.Blocks.{block-low, block-two, block-parts, block-three, block-four}
 use Rattle.spans.proofs.places.surplus_of_block.Statement.{statement}
 use Rattle.spans.proofs.places.surplus_of_block.Tie as tie
 
@@ -13,57 +12,36 @@ returns : tie.Need-returns
 returns c =
     let t = c .before .before in
     let x = t .args in
-    sym (block-low (now (x .text)) (x .from) (x .from + 128) (omega arith) (omega arith) (λ k l u. omega (arith, t .pre .2 k l u)))
+    sym (block-low (now (x .text)) (x .from) (x .from + 128) (omega arith) (omega arith) (λ k l u. omega (arith, t .pre .1 k l u)))
 
 returns-2 : tie.Need-returns-2
 returns-2 c =
     let t = c .before .before .before .before in
     let x = t .args in
-    c .count .ensures ∙ sym (block-two (now (x .text)) (x .from) (x .from + 128) (omega arith) (λ k l u. omega (arith, t .pre .2 k l u)))
+    c .count .ensures ∙ sym (block-two (now (x .text)) (x .from) (x .from + 128) (omega arith) (λ k l u. omega (arith, t .pre .1 k l u)))
 
 returns-3 : tie.Need-returns-3
 returns-3 c =
     let t = c .before .before .before .before .before .before .before in
     let x = t .args in
     ap (λ (n : ℕ). 2 * n) (c .count3 .ensures)
-    ∙ sym (block-plain (now (x .text)) (x .from) (x .from + 128) (omega arith) (λ k l u. omega (arith, t .pre .2 k l u)) (omega (arith, c .before .before .count2 .ensures)))
+    ∙ sym (block-three (now (x .text)) (x .from) (x .from + 128) (omega arith) (λ k l u. omega (arith, t .pre .1 k l u)) (omega (arith, c .before .before .count2 .ensures)))
 
 returns-4 : tie.Need-returns-4
 returns-4 c =
-    let t = c .before .before .before .before .before .before .before in
-    let x = t .args in
-    c .up-to-three .ensures ∙ sym (block-three (now (x .text)) (x .from) (x .from + 128) (omega arith) (λ k l u. omega (arith, t .pre .2 k l u)))
+    let x = c .before .before .before .before .before .before .before .args in
+    c .seconds-and-thirds .ensures ∙ sym (block-parts (now (x .text)) (x .from) (x .from + 128) (omega arith))
 
 returns-5 : tie.Need-returns-5
 returns-5 c =
-    let t = c .before .before .before .before .before .before .before .before in
-    let x = t .args in
-    let none = block-middle (now (x .text)) (x .from) (x .from + 128) (omega arith) (omega arith) (omega (arith, c .before .before .count4 .ensures)) in
-    omega (
-      arith,
-      block-four (now (x .text)) (x .from) (x .from + 128) (omega arith) (λ k l u. omega (arith, t .pre .2 k l u)),
-      none,
-      c .count5 .ensures,
-    )
+    let x = c .before .before .before .before .before .before .before .args in
+    ap (λ (n : ℕ). 2 * n) (c .count5 .ensures)
+    ∙ sym (block-four (now (x .text)) (x .from) (x .from + 128) (omega arith) (omega (arith, c .before .before .count4 .ensures)))
 
--- the whole, where there are characters of every length up to four
-all : (c : tie.After-count6)
-    → let x = c .before .before .before .before .before .before .before .before .before .args in
-    c .before .up-to-three2 .result + 2 * c .count6 .result ≡ between (surplusAt (now (x .text))) (x .from) (x .from + 128)
-all c =
-    let t = c .before .before .before .before .before .before .before .before .before in
-    let x = t .args in
-    omega (
-      arith,
-      block-four (now (x .text)) (x .from) (x .from + 128) (omega arith) (λ k l u. omega (arith, t .pre .2 k l u)),
-      c .before .up-to-three2 .ensures,
-      c .count6 .ensures,
-    )
-
-add-result : tie.Need-add-result
-add-result c =
-    let x = c .before .before .before .before .before .before .before .before .before .args in
-    omega (arith, all c, block-most (now (x .text)) (x .from) (x .from + 128) (omega arith) (omega arith))
+returns-6 : tie.Need-returns-6
+returns-6 c =
+    let x = c .before .before .before .before .before .before .before .args in
+    c .seconds-and-thirds2 .ensures ∙ sym (block-parts (now (x .text)) (x .from) (x .from + 128) (omega arith))
 
 pub surplus-of-block-spec : {M : Type 1} → statement M
 surplus-of-block-spec =
@@ -86,11 +64,4 @@ surplus-of-block-spec =
     (λ c. search needs)
     returns-5
     (λ c κs. search needs)
-    (λ c κs. search needs)
-    (λ c. search needs)
-    (λ c. search needs)
-    add-result
-    all
-    (λ c. search needs)
-    (λ c κs. search needs)
-    (λ c. search needs))
+    returns-6)

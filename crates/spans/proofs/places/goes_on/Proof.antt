@@ -1,0 +1,7 @@
+-- `spans::places::goes_on` meets its contract. Assumes nothing.
+use borrow.Author.Needs.{needs}
+use Rattle.spans.proofs.places.goes_on.Statement.{statement}
+use Rattle.spans.proofs.places.goes_on.Tie as tie
+
+pub goes-on-spec : {M : Type 1} → statement M
+goes-on-spec = tie.close (tie.spec (λ c κs. search needs) (λ c. rw (c .is-tail .ensures)))
