@@ -2,6 +2,8 @@
 #[cfg(all(linked, oracle))]
 mod chosen;
 #[cfg(all(linked, oracle))]
+mod damaged;
+#[cfg(all(linked, oracle))]
 mod hostile;
 #[cfg(all(linked, oracle))]
 mod ours;
@@ -26,6 +28,7 @@ fn main() {
     tables::table(chosen, "Lean list", two, tables::lean);
     tables::table(chosen, "Masked copy", two, tables::mask);
     tables::table(chosen, "Steps from edge to edge", two, tables::steps);
+    tables::table(chosen, "Steps over damaged text", &damaged::GROUPS, tables::damaged_steps);
     tables::table(chosen, "Place of the last byte", all, tables::place);
     tables::table(chosen, "Test for UTF-8 alone", first, tables::valid);
     short::table(chosen);

@@ -51,6 +51,11 @@ pub fn steps(text: &str) -> usize {
     tokens
 }
 
+/// The same for a text that may be damaged: its valid parts, and a token for each broken character between them.
+pub fn damaged_steps(text: &[u8]) -> usize {
+    text.utf8_chunks().map(|part| steps(part.valid()) + !part.invalid().is_empty() as usize).sum()
+}
+
 /// The first token.
 pub fn step(text: &str) -> Token {
     Tokenizer::new(text).next_token()

@@ -9,9 +9,9 @@ use std::hint::black_box;
 pub const SIZE: usize = 1_000_000;
 
 /// A text of some size, the same for the same number.
-pub fn make(text: Text, number: usize, size: usize) -> Vec<u8> {
+pub fn make<T: Into<Vec<u8>>>(text: Text<T>, number: usize, size: usize) -> Vec<u8> {
     let (name, make) = text;
-    let made = make(&mut Random(0xB5297A4D1B56C4E9 ^ number as u64), size).into_bytes();
+    let made: Vec<u8> = make(&mut Random(0xB5297A4D1B56C4E9 ^ number as u64), size).into();
     assert_eq!(made.len(), size, "{name}");
     made
 }
@@ -23,7 +23,7 @@ pub fn mean_and_worst(ratios: &[f64]) -> [(&'static str, f64); 2] {
 }
 
 /// One table of the rows that are chosen: a row a text, below the name of its group where there are several groups.
-pub fn table(chosen: &Chosen, title: &str, groups: &[Group], measure: impl Fn(&[u8]) -> Pair) {
+pub fn table<T: Into<Vec<u8>> + 'static>(chosen: &Chosen, title: &str, groups: &[Group<T>], measure: impl Fn(&[u8]) -> Pair) {
     let several = groups.len() > 1;
     let mut ratios = vec![];
     for (group, texts) in groups {
@@ -76,6 +76,11 @@ pub fn steps(text: &[u8]) -> Pair {
     let checked = rust::checked(text);
     assert_eq!(ours::steps(text), rust::steps(checked));
     race(|| ours::steps(black_box(text)), || rust::steps(black_box(checked)))
+}
+
+pub fn damaged_steps(text: &[u8]) -> Pair {
+    assert_eq!(ours::steps(text), rust::damaged_steps(text));
+    race(|| ours::steps(black_box(text)), || rust::damaged_steps(black_box(text)))
 }
 
 pub fn place(text: &[u8]) -> Pair {

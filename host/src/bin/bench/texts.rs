@@ -2,8 +2,8 @@
 use crate::sql;
 use host::Random;
 
-/// A text's name, and what makes it.
-pub type Text = (&'static str, fn(&mut Random, usize) -> String);
+/// A text's name, and what makes it: as a String, or as bytes that may be damaged.
+pub type Text<T = String> = (&'static str, fn(&mut Random, usize) -> T);
 
 pub const TEXTS: [Text; 13] = [
     ("SQL", |r, size| fitted(String::new(), size, || sql::statement(r))),
@@ -51,7 +51,7 @@ pub const LINES: [Text; 3] = [
 ];
 
 /// A group of texts, with its name.
-pub type Group = (&'static str, &'static [Text]);
+pub type Group<T = String> = (&'static str, &'static [Text<T>]);
 
 pub const GROUPS: [Group; 3] = [("texts", &TEXTS), ("one thing again and again", &REPEATED), ("lines and columns", &LINES)];
 
@@ -83,7 +83,7 @@ fn closed(open: &str, size: usize, close: &str, mut piece: impl FnMut() -> Strin
 }
 
 /// One to `most` characters of a range.
-fn letters(r: &mut Random, range: std::ops::RangeInclusive<char>, most: usize) -> String {
+pub fn letters(r: &mut Random, range: std::ops::RangeInclusive<char>, most: usize) -> String {
     let (first, last) = (*range.start() as u32, *range.end() as u32);
     (0..1 + r.below(most)).map(|_| char::from_u32(first + r.below((last - first + 1) as usize) as u32).unwrap()).collect()
 }
