@@ -1,7 +1,8 @@
 -- What the bytes of a block add to the sums, by the least and the greatest of them. Assumes nothing.
-use Prim.Native.Nat.{ℕ, _+_, _-_, _*_, _≤_, _<_}
+use Prim.Native.Nat.{ℕ, zero, suc, _+_, _-_, _*_, _≤_, _<_}
 use mathlib.Core.Path.{_≡_, refl, ap, _∙_}
 use mathlib.Core.List.{List}
+use mathlib.Core.Logic.{_⊎_, inl, inr}
 use mathlib.Core.Bool.{Bool, true, false}
 use native.Mathlib.Omega.{arith}
 use native.Mathlib.Decide.{decLt}
@@ -11,9 +12,9 @@ use Rattle.rules.specs.Characters.{lineFeed, carriageReturn}
 use Rattle.rules.specs.Places.{endsLine}
 use Rattle.spans.specs.Sums.{bit, between, endAt, surplusAt, marked, markAt, Within}
 use Rattle.spans.specs.declared.places.Mark.{Mark}
-use Rattle.spans.specs.declared.places.Mark.the-variants.{End, Lead, Two, Second, Third, OddThree, OddFour}
-use Rattle.spans.proofs.Sums.{sum-zero, sum-same, sum-some, sum-plus, sum-twice, sum-most}
-use Rattle.spans.proofs.Surplus.{surplus-most, surplus-low, surplus-two, surplus-parts, surplus-three, surplus-four}
+use Rattle.spans.specs.declared.places.Mark.the-variants.{End, Lead, Two, OddThree, OddFour}
+use Rattle.spans.proofs.Sums.{sum-zero, sum-same, sum-some, sum-twice, sum-most, sum-start, sum-more}
+use Rattle.spans.proofs.Surplus.{surplus-most, surplus-low, surplus-two, surplus-three, surplus-four, surplus-next}
 
 bit-most : (t : Bool) → bit t ≤ 1
 bit-most true = omega arith
@@ -37,11 +38,6 @@ module _ (s : List ℕ) (i j : ℕ) (h : j ≤ length s) where
   pub block-two : Below 0xE0 → between (surplusAt s) i j ≡ marks Two
   block-two p = sum-same (surplusAt s) i (markAt Two s) j (λ k l u. surplus-two s k (omega arith) (p k l u))
 
-  pub block-parts : between (surplusAt s) i j ≡ marks Second + marks Third
-  block-parts =
-      sum-same (surplusAt s) i (λ k. markAt Second s k + markAt Third s k) j (λ k l u. surplus-parts s k (omega arith))
-      ∙ sum-plus (markAt Second s) i (markAt Third s) j
-
   -- where no lead is odd
   twice : (odd : Mark) → marks odd ≡ 0 → ((k : ℕ) → i ≤ k → k < j → marked odd (getD s k 0) (getD s (k + 1) 0) (getD s (k + 2) 0) ≡ false → surplusAt s k ≡ 2 * markAt Lead s k)
       → between (surplusAt s) i j ≡ 2 * marks Lead
@@ -57,6 +53,33 @@ module _ (s : List ℕ) (i j : ℕ) (h : j ≤ length s) where
 
   pub block-most : i ≤ j → between (surplusAt s) i j ≤ 2 * (j - i)
   block-most o = sum-most (surplusAt s) i 2 j o (λ k l u. surplus-most s k (omega arith))
+
+-- One a byte, and one more before a byte that adds nothing: no two bytes in a row add.
+module _ (s : List ℕ) (i : ℕ) where
+  abbrev added : ℕ → ℕ
+  added k = between (surplusAt s) i (i + k)
+
+  few : (k : ℕ) → i + k < length s → (added k ≤ k) ⊎ ((added k ≤ k + 1) × (surplusAt s (i + k) ≡ 0))
+  few zero h = inl (omega (arith, sum-start (surplusAt s) i))
+  few (suc k) h = go (few k (omega arith)) (decLt (surplusAt s (i + k)) 2)
+    where
+      next : added (suc k) ≡ added k + surplusAt s (i + k)
+      next = let e : i + suc k ≡ i + (k + 1) = omega arith in ap (between (surplusAt s) i) e ∙ sum-more (surplusAt s) i k
+
+      go : (added k ≤ k) ⊎ ((added k ≤ k + 1) × (surplusAt s (i + k) ≡ 0)) → Dec (surplusAt s (i + k) < 2)
+          → (added (suc k) ≤ suc k) ⊎ ((added (suc k) ≤ suc k + 1) × (surplusAt s (i + suc k) ≡ 0))
+      go (inr p) d = inl (omega (arith, next, p))
+      go (inl p) (yes d) = inl (omega (arith, next))
+      go (inl p) (no d) =
+          let e : i + suc k ≡ (i + k) + 1 = omega arith in
+          inr (omega (arith, next, surplus-most s (i + k) (omega arith)), ap (surplusAt s) e ∙ surplus-next s (i + k) (omega arith) (omega arith))
+
+  pub block-few : (k : ℕ) → i + k < length s → added k ≤ k + 1
+  block-few k h = go (few k h)
+    where
+      go : (added k ≤ k) ⊎ ((added k ≤ k + 1) × (surplusAt s (i + k) ≡ 0)) → added k ≤ k + 1
+      go (inl p) = omega arith
+      go (inr p) = p .0
 
 -- Bounds for one byte more
 module _ {s : List ℕ} {from : ℕ} (n : ℕ) {least most least' most' : ℕ} (w : Within s from (from + n) least most) (a : least' ≤ least) (b : least' ≤ getD s (from + n) 0) (c : most ≤ most') (d : getD s (from + n) 0 ≤ most') where

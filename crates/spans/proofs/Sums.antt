@@ -73,14 +73,6 @@ module _ (f : ℕ → ℕ) (i : ℕ) where
   pub sum-twice : (j : ℕ) → between (λ k. 2 * f k) i j ≡ 2 * between f i j
   sum-twice j = twice (j - i)
 
-  plus : (g : ℕ → ℕ) (n : ℕ) → sumOver (λ k. f k + g k) i n ≡ sumOver f i n + sumOver g i n
-  unfolding sumOver
-  plus g zero = refl
-  plus g (suc n) = omega (arith, plus g n)
-
-  pub sum-plus : (g : ℕ → ℕ) (j : ℕ) → between (λ k. f k + g k) i j ≡ between f i j + between g i j
-  sum-plus g j = plus g (j - i)
-
 pub sum-zero : (f : ℕ → ℕ) (i j : ℕ) → i ≤ j → ((k : ℕ) → i ≤ k → k < j → f k ≡ 0) → between f i j ≡ 0
 sum-zero f i j h p = omega (arith, sum-most f i 0 j h (λ k l u. omega (arith, p k l u)))
 

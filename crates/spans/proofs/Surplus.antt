@@ -2,19 +2,19 @@
 use Prim.Native.Nat.{ℕ, zero, suc, _+_, _-_, _*_, _≤_, _<_}
 use mathlib.Core.Path.{_≡_, refl, sym, ap, ap₂, _∙_}
 use mathlib.Core.List.{List}
-use mathlib.Core.Bool.{Bool, true, false, not, cond, _&&_, and-false}
+use mathlib.Core.Bool.{Bool, true, false, not, cond, _&&_, _||_, and-false}
 use native.Mathlib.Omega.{arith}
 use native.Mathlib.Decide.{decLt}
 use lib.Dec.{leb, eqb}
 use lib.ListN.{length, getD, drop}
-use borrow.Author.Tests.{le-leb, lt-leb, ne-eqb, eq-eqb, leb-true, eqb-true, eqb-false, not-true}
+use borrow.Author.Tests.{le-leb, lt-leb, ne-eqb, eq-eqb, leb-true, leb-false, eqb-true, eqb-false, not-true}
 use Rattle.rules.specs.Utf8.{within, utf8Tail, utf8Two, utf8Three, utf8Four, formed, wellFormed, begun, width, charAt}
 use Rattle.rules.specs.Places.{units}
 use Rattle.rules.proofs.Tests.{clash, and-both}
 use Rattle.rules.proofs.Decoding.{three-first, three-surrogate, three-other, four-first, four-last, four-other, four-above, at-index, begun-index, begun-low, begun-middle, begun-high, formed-one, formed-low, formed-two, formed-three, formed-four, form-of, form-most, broken-range, width-broken, width-formed, some-left}
 use Rattle.rules.proofs.Places.{units-four, units-other}
-use Rattle.spans.specs.Sums.{bit, surplusAt, goesOn, marked, markAt}
-use Rattle.spans.specs.declared.places.Mark.the-variants.{Lead, Two, Second, Third, OddThree, OddFour}
+use Rattle.spans.specs.Sums.{bit, surplusAt, goesOn, surplusBy, marked, markAt}
+use Rattle.spans.specs.declared.places.Mark.the-variants.{Lead, Two, OddThree, OddFour}
 
 and-true : (x : Bool) → (x && true) ≡ x
 and-true true = refl
@@ -28,12 +28,12 @@ from-low lo b h = go (leb lo b) refl
     go true e = simp (e, le-leb 0x80 b (let k = leb-true lo b e in omega arith), and-true)
     go false e = simp (e, and-false)
 
-upto-high : (hi b : ℕ) → hi ≤ 0xBF → (utf8Tail b && leb b hi) ≡ within 0x80 hi b
-upto-high hi b h = go (leb b hi) refl
+upto-high : (hi b : ℕ) → hi < 0xBF → (utf8Tail b && not (leb (suc hi) b)) ≡ within 0x80 hi b
+upto-high hi b h = go (leb (suc hi) b) refl
   where
-    go : (t : Bool) → leb b hi ≡ t → (utf8Tail b && leb b hi) ≡ within 0x80 hi b
-    go true e = simp (e, le-leb b 0xBF (let k = leb-true b hi e in omega arith), and-true)
-    go false e = simp (e, and-false)
+    go : (t : Bool) → leb (suc hi) b ≡ t → (utf8Tail b && not (leb (suc hi) b)) ≡ within 0x80 hi b
+    go true e = let k = leb-true (suc hi) b e in simp (e, lt-leb b hi (omega arith), and-false)
+    go false e = let k = leb-false (suc hi) b e in simp (e, le-leb b 0xBF (omega arith), le-leb b hi (omega arith), and-true)
 
 -- The second byte, by the first.
 module _ (a b : ℕ) where
@@ -42,6 +42,14 @@ module _ (a b : ℕ) where
 
   goes-above : 0xF4 < a → goesOn a b ≡ false
   goes-above h = simp (lt-leb a 0xF4 h, and-false)
+
+  -- below F0 the last bounds need no test
+  pub goes-by : (four : Bool) → (four ≡ false → a < 0xF0)
+      → ((leb 0xC2 a && utf8Tail b)
+      && (((not (eqb a 0xE0) || leb 0xA0 b) && (not (eqb a 0xED) || not (leb 0xA0 b))) && (not four || (leb a 0xF4 && ((not (eqb a 0xF0) || leb 0x90 b) && (not (eqb a 0xF4) || not (leb 0x90 b)))))))
+      ≡ goesOn a b
+  goes-by true h = refl
+  goes-by false h = let l = h refl in sym (rw (le-leb a 0xF4 (omega arith), ne-eqb a 0xF0 (λ e. omega arith), ne-eqb a 0xF4 (λ e. omega arith)))
 
   goes-plain : 0xC2 ≤ a → a < 0xF4 → (a ≡ 0xE0 → ⊥) → (a ≡ 0xED → ⊥) → (a ≡ 0xF0 → ⊥) → goesOn a b ≡ utf8Tail b
   goes-plain l h x y z =
@@ -157,8 +165,7 @@ module _ (s : List ℕ) (i : ℕ) (h : i < length s) where
   first-two l u = in-two (utf8Tail b) (formed-two a b c d l u) (begun-low a b c u)
 
   -- a unit for each byte but for the second and the third
-  pub surplus-parts : surplusAt s i ≡ markAt Second s i + markAt Third s i
-  unfolding marked
+  pub surplus-parts : surplusAt s i ≡ surplusBy a b c
   surplus-parts = go (decLt a 0xC2) (decLt a 0xE0)
     where
       go : Dec (a < 0xC2) → Dec (a < 0xE0) → surplusAt s i ≡ bit (goesOn a b) + bit ((goesOn a b && leb 0xE0 a) && utf8Tail c)
@@ -178,7 +185,6 @@ module _ (s : List ℕ) (i : ℕ) (h : i < length s) where
   bit-most false = omega arith
 
   pub surplus-most : surplusAt s i ≤ 2
-  unfolding marked
   surplus-most = omega (arith, surplus-parts, bit-most (goesOn a b), bit-most ((goesOn a b && leb 0xE0 a) && utf8Tail c))
 
   -- by its length
@@ -237,3 +243,17 @@ module _ (s : List ℕ) (i : ℕ) (h : i < length s) where
           let f = and-both (eqb a 0xF0) (within 0x90 0xBF b) (k .0) in
           let e = eqb-true a 0xF0 (f .0) in
           twice (goes-four a b e ∙ f .1) (omega arith) (k .1)
+
+-- After a byte that adds comes a tail, which adds nothing.
+pub surplus-next : (s : List ℕ) (i : ℕ) → i + 1 < length s → 0 < surplusAt s i → surplusAt s (i + 1) ≡ 0
+surplus-next s i h p = go (goesOn (getD s i 0) (getD s (i + 1) 0)) refl
+  where
+    none : goesOn (getD s i 0) (getD s (i + 1) 0) ≡ false → surplusBy (getD s i 0) (getD s (i + 1) 0) (getD s (i + 2) 0) ≡ 0
+    none e = rw e
+
+    go : (t : Bool) → goesOn (getD s i 0) (getD s (i + 1) 0) ≡ t → surplusAt s (i + 1) ≡ 0
+    go false e = absurd (omega (arith, surplus-parts s i (omega arith), none e))
+    go true e =
+        let t = and-both (leb 0xC2 (getD s i 0)) (utf8Tail (getD s (i + 1) 0)) (and-both (leb 0xC2 (getD s i 0) && utf8Tail (getD s (i + 1) 0)) _ e .0) .1 in
+        let l = leb-true (getD s (i + 1) 0) 0xBF (and-both (leb 0x80 (getD s (i + 1) 0)) (leb (getD s (i + 1) 0) 0xBF) t .1) in
+        surplus-low s (i + 1) h (omega arith)

@@ -9,7 +9,7 @@ use lib.ListN.{length, getD, drop}
 use Rattle.rules.specs.Utf8.{within, utf8Tail, utf8Two, width, charAt}
 use Rattle.rules.specs.Places.{units, endsLine}
 use Rattle.spans.specs.declared.places.Mark.{Mark}
-use Rattle.spans.specs.declared.places.Mark.the-variants.{End, Lead, Two, Second, Third, OddThree, OddFour}
+use Rattle.spans.specs.declared.places.Mark.the-variants.{End, Lead, Two, OddThree, OddFour}
 
 -- The sum of a function over n indices, from i on.
 unfoldable pub sumOver : (ℕ → ℕ) → ℕ → ℕ → ℕ
@@ -35,26 +35,24 @@ surplusAt s i = width (charAt (drop i s)) - units (charAt (drop i s))
 -- A second byte that goes on with what the first begins: a tail, which E0, ED, F0 and F4 bound more.
 abbrev pub goesOn : ℕ → ℕ → Bool
 goesOn a b =
-    (within 0xC2 0xF4 a && utf8Tail b)
-    && (((not (eqb a 0xE0) || leb 0xA0 b) && (not (eqb a 0xED) || leb b 0x9F)) && ((not (eqb a 0xF0) || leb 0x90 b) && (not (eqb a 0xF4) || leb b 0x8F)))
+    (leb 0xC2 a && utf8Tail b)
+    && (((not (eqb a 0xE0) || leb 0xA0 b) && (not (eqb a 0xED) || not (leb 0xA0 b))) && (leb a 0xF4 && ((not (eqb a 0xF0) || leb 0x90 b) && (not (eqb a 0xF4) || not (leb 0x90 b)))))
+
+-- What a character has more of bytes than of units, by its first three bytes: whole ones of four bytes have two units, and so as much as cut ones of three.
+abbrev pub surplusBy : ℕ → ℕ → ℕ → ℕ
+surplusBy a b c = bit (goesOn a b) + bit ((goesOn a b && leb 0xE0 a) && utf8Tail c)
 
 -- What a mark says of a byte and the two after it.
 unfoldable pub marked : Mark → ℕ → ℕ → ℕ → Bool
 marked End a b c = endsLine a b
 marked Lead a b c = leb 0xC2 a
 marked Two a b c = utf8Two a b
-marked Second a b c = goesOn a b
-marked Third a b c = (goesOn a b && leb 0xE0 a) && utf8Tail c
 marked OddThree a b c = leb 0xC2 a && not ((leb 0xE1 a && not (eqb a 0xED)) && (utf8Tail b && utf8Tail c))
 marked OddFour a b c = leb 0xC2 a && not ((eqb a 0xF0 && within 0x90 0xBF b) && utf8Tail c)
 
 -- 1 where the byte is marked.
 abbrev pub markAt : Mark → List ℕ → ℕ → ℕ
 markAt mark s i = bit (marked mark (getD s i 0) (getD s (i + 1) 0) (getD s (i + 2) 0))
-
--- What all characters have more of bytes than of units: whole ones of four bytes, which have two units, as much as cut ones of three.
-abbrev pub secondsAndThirds : List ℕ → ℕ → ℕ → ℕ
-secondsAndThirds s i j = between (markAt Second s) i j + between (markAt Third s) i j
 
 -- Each byte between two indices is between two others.
 pub record Within (s : List ℕ) (from upto least most : ℕ) : Type 0 where

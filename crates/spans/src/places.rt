@@ -7,6 +7,7 @@ use utf8::byte_at;
 use utf8::is_tail;
 use utf8::len_at;
 ghost use mathlib.Core.Path.{_≡_};
+ghost use mathlib.Core.Bool.{false};
 ghost use Prim.Native.Nat.{ℕ, _+_, _≤_, _<_};
 ghost use lib.ListN.{length, getD};
 ghost use Rattle.rules.specs.Utf8.{utf8Two};
@@ -14,7 +15,7 @@ ghost use Rattle.rules.specs.Limits.{maxQuerySize};
 ghost use Rattle.rules.specs.Places.{endsLine};
 ghost use Rattle.rules.specs.Answers.{placeAt};
 ghost use Rattle.spans.specs.Placed.{placed};
-ghost use Rattle.spans.specs.Sums.{between, secondsAndThirds, goesOn, marked, markAt, endAt, surplusAt, Within, Starts, Edge};
+ghost use Rattle.spans.specs.Sums.{between, goesOn, surplusBy, marked, markAt, endAt, surplusAt, Within, Starts, Edge};
 
 // What `place` gives: document 01's number and value, and the place.
 pub struct Placed {
@@ -32,13 +33,9 @@ pub enum Mark {
     Lead,
     // A character of two bytes.
     Two,
-    // A second byte of a character, whole or cut,
-    Second,
-    // and a third: both are told at the first byte.
-    Third,
-    // A lead, but where the greatest is below F0, for one of three bytes whose second no bound but a tail's holds,
+    // A lead, but for those from E1 on that two tails follow, ED apart: where none is above EF, these have three bytes.
     OddThree,
-    // and for one of F0 with three bytes of its own.
+    // A lead, but for F0 with a second byte and a third.
     OddFour,
 }
 
@@ -66,15 +63,7 @@ fn is_two(a: u8, b: u8) -> bool
     ((0xC2 <= a) & (a <= 0xDF)) & is_tail(b)
 }
 
-// The second byte goes on with what the first begins. No test is a jump, here and in the next, so that a block's become one.
-fn goes_on(a: u8, b: u8) -> bool
-    ensures { λ r. ⌜ r ≡ goesOn a b ⌝ }
-{
-    let three = ((a != 0xE0) | (0xA0 <= b)) & ((a != 0xED) | (b <= 0x9F));
-    let four = ((a != 0xF0) | (0x90 <= b)) & ((a != 0xF4) | (b <= 0x8F));
-    (((0xC2 <= a) & (a <= 0xF4)) & is_tail(b)) & (three & four)
-}
-
+// No test is a jump, here and in the others of a block, so that a block's become one.
 fn is_marked(mark: Mark, a: u8, b: u8, c: u8) -> bool
     ensures { λ r. ⌜ r ≡ marked mark a b c ⌝ }
 {
@@ -82,8 +71,6 @@ fn is_marked(mark: Mark, a: u8, b: u8, c: u8) -> bool
         Mark::End => ends_line(a, b),
         Mark::Lead => 0xC2 <= a,
         Mark::Two => is_two(a, b),
-        Mark::Second => goes_on(a, b),
-        Mark::Third => (goes_on(a, b) & (0xE0 <= a)) & is_tail(c),
         Mark::OddThree => {
             (0xC2 <= a) & !(((0xE1 <= a) & (a != 0xED)) & (is_tail(b) & is_tail(c)))
         }
@@ -102,12 +89,7 @@ fn count(text: &[u8], from: usize, mark: Mark) -> u8
     let mut n: u8 = 0;
     let mut k = 0;
     while k < 128 {
-        if is_marked(
-            mark,
-            text[from + k],
-            text[from + k + 1],
-            text[from + k + 2],
-        ) {
+        if is_marked(mark, text[from + k], text[from + k + 1], text[from + k + 2]) {
             n += 1;
         }
         k += 1;
@@ -147,15 +129,45 @@ fn surplus_at(text: &[u8], i: usize) -> usize
     if len == 4 { 2 } else { len - 1 }
 }
 
-// What all characters have more, over a block: a byte for each second, and one for each third. A fourth has a unit of its own.
-fn seconds_and_thirds(text: &[u8], from: usize) -> usize
-    requires { ⌜ from + 130 ≤ length (now text) ⌝ }
-    ensures { λ r. ⌜ r ≡ secondsAndThirds (now (text .entry)) from (from + 128) ⌝ }
+// The second byte goes on with what the first begins: a character, whole or cut. Without `four` no first byte is above EF.
+fn goes_on(a: u8, b: u8, four: bool) -> bool
+    requires { ⌜ (four ≡ false → a < 0xF0) ⌝ }
+    ensures { λ r. ⌜ r ≡ goesOn a b ⌝ }
 {
-    count(text, from, Mark::Second) as usize + count(text, from, Mark::Third) as usize
+    let high = 0xA0 <= b;
+    let three = ((a != 0xE0) | high) & ((a != 0xED) | !high);
+    let some = 0x90 <= b;
+    let last = (a <= 0xF4) & (((a != 0xF0) | some) & ((a != 0xF4) | !some));
+    ((0xC2 <= a) & is_tail(b)) & (three & (!four | last))
 }
 
-// The same, in a shorter way where the block's greatest byte and its leads allow it.
+// The same as `surplus_at`, by the first three bytes: one for a second byte of the character, and one for a third. A fourth has a unit of its own.
+fn surplus_by(a: u8, b: u8, c: u8, four: bool) -> u8
+    requires { ⌜ (four ≡ false → a < 0xF0) ⌝ }
+    ensures { λ r. ⌜ r ≡ surplusBy a b c ⌝ }
+{
+    let second = goes_on(a, b, four);
+    if (second & (0xE0 <= a)) & is_tail(c) {
+        return 2;
+    }
+    if second { 1 } else { 0 }
+}
+
+// Over a block of any characters. No byte after a first adds to it, so that a byte holds it; the compiler knows `four` at each call.
+fn surplus_of_any(text: &[u8], from: usize, four: bool) -> u8
+    requires { ⌜ (from + 130 ≤ length (now text)) × (four ≡ false → (k : ℕ) → from ≤ k → k < from + 128 → getD (now text) k 0 < 0xF0) ⌝ }
+    ensures { λ r. ⌜ r ≡ between (surplusAt (now (text .entry))) from (from + 128) ⌝ }
+{
+    let mut n: u8 = 0;
+    let mut k = 0;
+    while k < 128 {
+        n += surplus_by(text[from + k], text[from + k + 1], text[from + k + 2], four);
+        k += 1;
+    }
+    n
+}
+
+// The same in a shorter way, where the block's greatest byte and its leads allow one.
 fn surplus_of_block(text: &[u8], from: usize, most: u8) -> usize
     requires { ⌜ (from + 130 ≤ length (now text)) × ((k : ℕ) → from ≤ k → k < from + 128 → getD (now text) k 0 ≤ most) ⌝ }
     ensures { λ r. ⌜ r ≡ between (surplusAt (now (text .entry))) from (from + 128) ⌝ }
@@ -170,12 +182,12 @@ fn surplus_of_block(text: &[u8], from: usize, most: u8) -> usize
         if count(text, from, Mark::OddThree) == 0 {
             return 2 * count(text, from, Mark::Lead) as usize;
         }
-        return seconds_and_thirds(text, from);
+        return surplus_of_any(text, from, false) as usize;
     }
     if count(text, from, Mark::OddFour) == 0 {
         return 2 * count(text, from, Mark::Lead) as usize;
     }
-    seconds_and_thirds(text, from)
+    surplus_of_any(text, from, true) as usize
 }
 
 // A line ends with the byte at i.

@@ -53,7 +53,8 @@ pub fn steps(text: &str) -> usize {
 
 /// The same for a text that may be damaged: its valid parts, and a token for each broken character between them.
 pub fn damaged_steps(text: &[u8]) -> usize {
-    text.utf8_chunks().map(|part| steps(part.valid()) + !part.invalid().is_empty() as usize).sum()
+    let lexed = |valid: &str| if valid.is_empty() { 0 } else { steps(valid) };
+    text.utf8_chunks().map(|part| lexed(part.valid()) + !part.invalid().is_empty() as usize).sum()
 }
 
 /// The first token.

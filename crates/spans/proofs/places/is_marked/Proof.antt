@@ -25,19 +25,11 @@ returns-3 c = let x = c .before .before .before .args in c .is-two .ensures ∙ 
 
 returns-4 : tie.Need-returns-4
 unfolding marked
-returns-4 c = let x = c .before .before .before .args in c .goes-on .ensures ∙ told (x .a) (x .b) (x .c) (c .before .enum-told4 .given .1)
+returns-4 c = let x = c .before .before .before .before .args in rw (c .before .is-tail .ensures, c .is-tail2 .ensures) (told (x .a) (x .b) (x .c) (c .before .before .enum-told4 .given .1))
 
 returns-5 : tie.Need-returns-5
 unfolding marked
-returns-5 c = let x = c .before .before .before .before .args in rw (c .before .goes-on2 .ensures, c .is-tail .ensures) (told (x .a) (x .b) (x .c) (c .before .before .enum-told5 .given .1))
-
-returns-6 : tie.Need-returns-6
-unfolding marked
-returns-6 c = let x = c .before .before .before .before .args in rw (c .before .is-tail2 .ensures, c .is-tail3 .ensures) (told (x .a) (x .b) (x .c) (c .before .before .enum-told6 .given .1))
-
-returns-7 : tie.Need-returns-7
-unfolding marked
-returns-7 c = let x = c .before .before .before .args in rw (c .is-tail4 .ensures) (told (x .a) (x .b) (x .c) (c .before .enum-told7 .given .1))
+returns-5 c = let x = c .before .before .before .args in rw (c .is-tail3 .ensures) (told (x .a) (x .b) (x .c) (c .before .enum-told5 .given .1))
 
 pub is-marked-spec : {M : Type 1} → statement M
 is-marked-spec =
@@ -50,11 +42,6 @@ is-marked-spec =
     (λ c κs. search needs)
     (λ c. search needs)
     (λ c κs. search needs)
-    (λ c. search needs)
-    (λ c κs. search needs)
-    (λ c κs. search needs)
-    (λ c. search needs)
-    (λ c κs. search needs)
     (λ c κs. search needs)
     (λ c. search needs)
     (λ c κs. search needs)
@@ -62,6 +49,4 @@ is-marked-spec =
     returns-2
     returns-3
     returns-4
-    returns-5
-    returns-6
-    returns-7)
+    returns-5)

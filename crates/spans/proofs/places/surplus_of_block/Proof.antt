@@ -1,10 +1,11 @@
 -- `spans::places::surplus_of_block` meets its contract: a law of the block for each way. Assumes nothing.
 use Prim.Native.Nat.{ℕ, _+_, _*_}
 use native.Mathlib.Omega.{arith}
-use mathlib.Core.Path.{sym, ap, _∙_}
+use mathlib.Core.Path.{refl, sym, ap, _∙_}
 use denote.Ref.{now}
 use borrow.Author.Needs.{needs}
-use Rattle.spans.proofs.Blocks.{block-low, block-two, block-parts, block-three, block-four}
+use Rattle.rules.proofs.Tests.{clash}
+use Rattle.spans.proofs.Blocks.{block-low, block-two, block-three, block-four}
 use Rattle.spans.proofs.places.surplus_of_block.Statement.{statement}
 use Rattle.spans.proofs.places.surplus_of_block.Tie as tie
 
@@ -27,21 +28,11 @@ returns-3 c =
     ap (λ (n : ℕ). 2 * n) (c .count3 .ensures)
     ∙ sym (block-three (now (x .text)) (x .from) (x .from + 128) (omega arith) (λ k l u. omega (arith, t .pre .1 k l u)) (omega (arith, c .before .before .count2 .ensures)))
 
-returns-4 : tie.Need-returns-4
-returns-4 c =
-    let x = c .before .before .before .before .before .before .before .args in
-    c .seconds-and-thirds .ensures ∙ sym (block-parts (now (x .text)) (x .from) (x .from + 128) (omega arith))
-
 returns-5 : tie.Need-returns-5
 returns-5 c =
     let x = c .before .before .before .before .before .before .before .args in
     ap (λ (n : ℕ). 2 * n) (c .count5 .ensures)
     ∙ sym (block-four (now (x .text)) (x .from) (x .from + 128) (omega arith) (omega (arith, c .before .before .count4 .ensures)))
-
-returns-6 : tie.Need-returns-6
-returns-6 c =
-    let x = c .before .before .before .before .before .before .before .args in
-    c .seconds-and-thirds2 .ensures ∙ sym (block-parts (now (x .text)) (x .from) (x .from + 128) (omega arith))
 
 pub surplus-of-block-spec : {M : Type 1} → statement M
 surplus-of-block-spec =
@@ -56,12 +47,14 @@ surplus-of-block-spec =
     (λ c. search needs)
     (λ c. search needs)
     returns-3
-    (λ c κs. search needs)
-    returns-4
+    (λ c κs. let t = c .before .before .before .before .before .before in (omega arith, λ e k l u. omega (arith, t .pre .1 k l u)))
+    (λ c. search needs)
+    (λ c. search needs)
     (λ c κs. search needs)
     (λ c κs. search needs)
     (λ c. search needs)
     (λ c. search needs)
     returns-5
-    (λ c κs. search needs)
-    returns-6)
+    (λ c κs. (omega arith, λ e. clash refl e))
+    (λ c. search needs)
+    (λ c. search needs))
