@@ -51,8 +51,9 @@ fn begins_some(bytes: &[u8]) -> bool {
     beginnings[joined(bytes)]
 }
 
-/// What stands at a place and its length: a character, or what is broken and of no class, or nothing, of length 0. Document 02, #105: "at a place where no
-/// well-formed character begins, the unit is the longest run of bytes there that begins some well-formed character, or one byte if there is none."
+/// What stands at a place and its length: a character, or what is broken and of no class, or nothing, of length 0. Document 02, #105: "at a place
+/// where no well-formed character begins, the unit is the longest run of bytes there that begins some well-formed character, or one byte if there is
+/// none."
 fn unit(text: &[u8], at: usize) -> (Option<char>, usize) {
     let rest = &text[at..];
     for n in 1..=rest.len().min(4) {
@@ -364,7 +365,8 @@ fn ends_line(c: Option<char>, next: Option<char>) -> bool {
     c == Some('\n') || (c == Some('\r') && next != Some('\n'))
 }
 
-/// "columns are UTF-16 code units (two for a character above U+FFFF, otherwise one)"; of what is broken, #105: "the unit is one character of one column".
+/// "columns are UTF-16 code units (two for a character above U+FFFF, otherwise one)"; of what is broken, #105: "the unit is one character of one
+/// column".
 fn columns(c: Option<char>) -> usize {
     if c.is_some_and(|c| c > '\u{FFFF}') {
         2

@@ -220,8 +220,8 @@ pub fn cut(r: &mut Random, text: &[u8]) -> Vec<u8> {
     text
 }
 
-/// The worked cases of #105, of which four are the Unicode Standard's (tables 3-8 to 3-11): a text and its units, a digit for each that is broken, which
-/// is its length, and each letter for itself.
+/// The worked cases of #105, of which four are the Unicode Standard's (tables 3-8 to 3-11): a text and its units, for each that is broken the digit of
+/// its length, and each letter for itself.
 pub const WORKED: [(&[u8], &str); 5] = [
     (b"\xC0\xAF\xE0\x80\xBF\xF0\x81\x82A", "11111111A"),
     (b"\xED\xA0\x80\xED\xBF\xBF\xED\xAFA", "11111111A"),

@@ -68,21 +68,30 @@ fn every_character() {
     println!("every character, before, between and after line ends: {compared} calls");
 }
 
-/// Runs of characters of one length and of several, of cut characters of each length, and of both.
+/// Runs of characters of one length, and of several.
 #[rustfmt::skip]
-const RUNS: [&[u8]; 17] = [
-    b"a", "ש".as_bytes(), "ა".as_bytes(), "😀".as_bytes(), "aש".as_bytes(), "שა".as_bytes(), "select 'שלום' ა😀 ".as_bytes(), b"\xC2", b"\xE1\x80", b"\xE0\xA0",
-    b"\xF1\x80", b"\xF1\x80\x80", b"\xF0\x9F\x98", b"a\xE2\x80", b"\xD7\xA9\xF0\x9F\x98", b"\xF0\x9F\x98\x80\xE1\x80",
-    b"a\xE1\x80\xD7\xA9\xF0\x9F\x98\xE1\x83\x90\xC2\xF0\x9F\x98\x80\xF1\x80\x80",
+const RUNS: [&[u8]; 7] =
+    [b"a", "ש".as_bytes(), "ა".as_bytes(), "😀".as_bytes(), "aש".as_bytes(), "שა".as_bytes(), "select 'שלום' ა😀 ".as_bytes()];
+
+/// Runs of cut characters of each length, and of these beside whole ones of each: the blocks that places are counted by are told by the bytes in them.
+#[rustfmt::skip]
+const CUT_RUNS: [&[u8]; 10] = [
+    b"\xC2", b"\xE1\x80", b"\xE0\xA0", b"\xF1\x80\x80", b"\xF0\x9F\x98", b"a\xE2\x80", b"\xD7\xA9\xC2\xE1\x80", b"\xE1\x83\x90\xE1\x80\xF0\x9F\x98",
+    b"\xF0\x9F\x98\x80\xE1\x80\xF0\x9F", b"a\xE1\x80\xD7\xA9\xF0\x9F\x98\xE1\x83\x90\xC2\xF0\x9F\x98\x80\xF1\x80\x80",
 ];
+
+/// Both.
+fn all_runs() -> impl Iterator<Item = &'static [u8]> {
+    RUNS.into_iter().chain(CUT_RUNS)
+}
 
 /// What ends a line or looks like it, characters of each length, and broken ones: cut after each of their bytes, with a line's end beside them too, of
 /// surrogates, beyond the last, and too long for their code. Two last bytes make whole what is cut.
 #[rustfmt::skip]
 const BETWEEN: [&[u8]; 31] = [
     b"\r\n", b"\r", b"\n", b"\n\r", b"\r\r\n\n", b"\n\x0B", b"\r\x0C", b"\xE2\x80\xA8", b"\xC4\x8A", b"a", "ש".as_bytes(), "ა".as_bytes(),
-    "😀".as_bytes(), b"\x80", b"\xD7", b"\xE2\x80", b"\xF0\x9F\x98", b"\xED\xA0\x80", b"\xF4\x90\x80\x80", b"\xC0\x80", b"\xE0\x80\x8A", b"\xFF", b"\xE0\xA0",
-    b"\xED\x9F", b"\xF0\x9F", b"\xF1\x80\x80", b"\xF4\x8F\xBF", b"\xE2\x80\n", b"\r\xE2\x80", b"\r\xF0\x9F\x98\r\n", b"\x80\x80",
+    "😀".as_bytes(), b"\x80", b"\xD7", b"\xE2\x80", b"\xF0\x9F\x98", b"\xED\xA0\x80", b"\xF4\x90\x80\x80", b"\xC0\x80", b"\xE0\x80\x8A", b"\xFF",
+    b"\xE0\xA0", b"\xED\x9F", b"\xF0\x9F", b"\xF1\x80\x80", b"\xF4\x8F\xBF", b"\xE2\x80\n", b"\r\xE2\x80", b"\r\xF0\x9F\x98\r\n", b"\x80\x80",
 ];
 
 /// A run of some bytes at least.
@@ -95,12 +104,12 @@ fn run(of: &[u8], bytes: usize) -> Vec<u8> {
 #[test]
 fn one_thing_at_every_place_of_a_run() {
     let mut compared = 0;
-    for (run, between) in RUNS.iter().flat_map(|of| BETWEEN.map(|between| (run(of, 260), between))) {
+    for (run, between) in all_runs().flat_map(|of| BETWEEN.map(|between| (run(of, 260), between))) {
         for at in 0..=run.len() {
             compared += compare_everywhere(&[&run[..at], between, &run[at..]].concat());
         }
     }
-    println!("each of {} things at every place of {} runs, everywhere: {compared} calls", BETWEEN.len(), RUNS.len());
+    println!("each of {} things at every place of {} runs, everywhere: {compared} calls", BETWEEN.len(), all_runs().count());
 }
 
 /// A line that begins anywhere in the first blocks, and something at every place after its beginning.
@@ -122,12 +131,12 @@ fn one_thing_at_every_place_of_a_line() {
 #[test]
 fn every_part_of_a_run() {
     let mut compared = 0;
-    for run in RUNS.map(|of| run(of, 260)) {
+    for run in all_runs().map(|of| run(of, 260)) {
         for start in 0..=16 {
             compared += (start..=run.len()).map(|end| compare_everywhere(&run[start..end])).sum::<usize>();
         }
     }
-    println!("every part of {} runs from their first 17 bytes on, everywhere: {compared} calls", RUNS.len());
+    println!("every part of {} runs from their first 17 bytes on, everywhere: {compared} calls", all_runs().count());
 }
 
 /// As long as a count that is held in a byte or in two of a block's would overflow.
@@ -135,7 +144,7 @@ fn every_part_of_a_run() {
 fn long_runs() {
     let mut r = Random(0x636920D871574E69);
     let mut compared = 0;
-    for of in RUNS.into_iter().chain(BETWEEN) {
+    for of in all_runs().chain(BETWEEN) {
         let text = of.repeat(300_000 / of.len());
         let anywhere = (0..300).map(|_| r.below(text.len()) as u64);
         let around = (1..=16).flat_map(|k| [2040, 4080, 8160, 16_320].map(|bytes| k * bytes)).flat_map(|at| at - 1..=at + 1);
@@ -200,7 +209,7 @@ fn ascii_without_cr_has_the_places_of_old() {
 fn sizes() {
     let mut compared = 0;
     for length in AROUND_THE_LIMIT {
-        for piece in RUNS.into_iter().chain(BETWEEN) {
+        for piece in all_runs().chain(BETWEEN) {
             let mut text = piece.repeat(MAX_QUERY_SIZE / piece.len() + 2);
             text.truncate(length);
             let end = length as u64;

@@ -1,5 +1,5 @@
-//! Single steps, through the C function: against the Rust from every token's edge, against the second reading from everywhere, and what is broken against
-//! `utf8_chunks`.
+//! Single steps, through the C function: against the Rust from every token's edge, against the second reading from everywhere, and what is broken
+//! against `utf8_chunks`.
 use host::{ask, compare, reading, texts, Answer, Call, Op, Random, AROUND_THE_LIMIT, MAX_QUERY_SIZE};
 
 /// What document 01 has for a step, by the second reading.
@@ -18,8 +18,8 @@ fn compare_everywhere(texts: &[Vec<u8>]) -> usize {
     compare(&calls, calls.iter().map(want))
 }
 
-/// Bytes that start, go on with, end and break the characters that the rules name, and what they stand beside. What is broken of these has 1 byte, or 2 as
-/// E0 A0 and ED 9F, or 3 as F0 9F 98; and of E0 9F, ED A0, F0 80 and F4 9F each byte stands alone.
+/// Bytes that start, go on with, end and break the characters that the rules name, and what they stand beside. What is broken of these has 1 byte, or
+/// 2 as E0 A0 and ED 9F, or 3 as F0 9F 98; and of E0 9F, ED A0, F0 80 and F4 9F each byte stands alone.
 const BYTES: [u8; 24] = *b"'\\$a0.e\n \xE2\x80\x98\x99\xC2\xA0\xC3\xA9\xE0\xF0\x9F\xED\xF4\xFF-";
 
 #[test]
@@ -46,10 +46,11 @@ const BROKEN: [&[u8]; 26] = [
 /// What stands before and after: nothing, each kind of literal with and without its end, words, numbers, tags, operators and what a backslash takes.
 #[rustfmt::skip]
 const AROUND: [(&str, &str); 45] = [
-    ("", ""), ("'", "'"), ("'", ""), ("\"", "\""), ("\"", ""), ("`", "`"), ("`", ""), ("‘", "’"), ("‘", ""), ("“", "”"), ("“", ""), ("--", "\n"), ("--", ""),
-    ("/*", "*/"), ("/*/*", "*/*/"), ("/*", ""), ("/", "*"), ("$", "$b$a$"), ("$a", "$b$a$"), ("$a$", "$a$"), ("$a$", "$a"), ("$$", "$$"), ("$$", ""),
-    ("a", "b"), ("_", "é"), ("aé", "1"), ("1", "x"), ("12", "_3"), ("0x", "1"), ("1e", "5"), ("1.", "e5"), (".", "1"), ("1a$", "$"), (" ", " "),
-    ("\u{A0}", "\u{2003}"), ("\\", "G"), ("\\", ""), ("'\\", "'"), ("'\\", "''"), ("`\\", "`"), ("-", "-"), ("=", ">"), ("<", "="), ("@", "'a'"), ("’", "\"a\""),
+    ("", ""), ("'", "'"), ("'", ""), ("\"", "\""), ("\"", ""), ("`", "`"), ("`", ""), ("‘", "’"), ("‘", ""), ("“", "”"), ("“", ""), ("--", "\n"),
+    ("--", ""), ("/*", "*/"), ("/*/*", "*/*/"), ("/*", ""), ("/", "*"), ("$", "$b$a$"), ("$a", "$b$a$"), ("$a$", "$a$"), ("$a$", "$a"), ("$$", "$$"),
+    ("$$", ""), ("a", "b"), ("_", "é"), ("aé", "1"), ("1", "x"), ("12", "_3"), ("0x", "1"), ("1e", "5"), ("1.", "e5"), (".", "1"), ("1a$", "$"),
+    (" ", " "), ("\u{A0}", "\u{2003}"), ("\\", "G"), ("\\", ""), ("'\\", "'"), ("'\\", "''"), ("`\\", "`"), ("-", "-"), ("=", ">"),
+    ("<", "="), ("@", "'a'"), ("’", "\"a\""),
 ];
 
 #[test]
@@ -86,9 +87,9 @@ fn walked(text: &[u8]) -> Vec<(u64, usize, usize)> {
     tokens
 }
 
-/// Holds the ErrorTokens of a text of letters, spaces, single quotes and what is broken to `utf8_chunks`, with no second reading: they are just the broken
-/// parts that stand in no string, which is after an even number of quotes. Adds how many there are of each length; a text in which broken bytes make a
-/// character is passed over.
+/// Holds the ErrorTokens of a text of letters, spaces, single quotes and what is broken to `utf8_chunks`, with no second reading: they are just the
+/// broken parts that stand in no string, which is after an even number of quotes. Adds how many there are of each length. A text in which broken bytes
+/// make a character is passed over.
 fn compare_errors(text: &[u8], counts: &mut [usize; 4]) -> bool {
     if text.utf8_chunks().any(|chunk| !chunk.valid().is_ascii()) {
         return false;
@@ -128,8 +129,8 @@ fn the_error_tokens_are_the_broken_parts() {
     }
     let [_, one, two, three] = counts;
     println!(
-        "every text of up to 6 of {} bytes and {n} random ones, without characters past ASCII: {texts} texts with {one}, {two} and {three} ErrorTokens of \
-         1, 2 and 3 bytes, all of them broken parts",
+        "every text of up to 6 of {} bytes and {n} random ones, without characters past ASCII: {texts} texts with {one}, {two} and {three} ErrorTokens \
+         of 1, 2 and 3 bytes, all of them broken parts",
         OF_ERRORS.len()
     );
 }
