@@ -29,18 +29,12 @@ pub fn place(lines: &[&str], offset: usize) -> (usize, usize) {
     unreachable!("a text has a line")
 }
 
-/// A text with a letter for each byte that begins no character: such a byte, too, is one column and ends no line.
+/// A text with a letter, as long, for each part that `utf8_chunks` finds broken: such a part, too, is one column and ends no line.
 pub fn mended(text: &[u8]) -> String {
-    let (mut mended, mut rest) = (String::new(), text);
-    loop {
-        match std::str::from_utf8(rest) {
-            Ok(valid) => return mended + valid,
-            Err(e) => {
-                let (valid, broken) = rest.split_at(e.valid_up_to());
-                mended += std::str::from_utf8(valid).unwrap();
-                mended += "x";
-                rest = &broken[1..];
-            }
-        }
+    let mut mended = String::new();
+    for chunk in text.utf8_chunks() {
+        mended += chunk.valid();
+        mended += ["", "x", "é", "ა"][chunk.invalid().len()];
     }
+    mended
 }

@@ -1,7 +1,9 @@
-//! A second reading of document 01, from its text alone: the lexical rules over any bytes, and what the C functions must answer and leave. Places are
-//! as document 02 has mended them (#103). Sentences are numbered as in docs/DECISIONS.md: 4.1 is the first sentence of rule 4.
+//! A second reading of document 01, from its text alone: the lexical rules over any bytes, and what the C functions must answer and leave. Places and
+//! broken characters are as document 02 has mended them (#103, #105). Sentences are numbered as in docs/DECISIONS.md: 4.1 is the first sentence of
+//! rule 4.
 use crate::{Answer, Call, Op, Triple, MAX_QUERY_SIZE, TOKEN_BYTES};
 use std::ops::Range;
+use std::sync::OnceLock;
 
 const WHITESPACE: u32 = 1;
 const COMMENT: u32 = 2;
@@ -29,7 +31,29 @@ const OPERATORS: [(&str, u32); 38] = [
     ("\\G", 38), ("\\g", 38), ("!", 45), ("|", 46),
 ];
 
-/// What stands at a place and its length: a character, or one byte that begins none and is of no class, or nothing, of length 0.
+/// Some bytes as a number, the first the highest.
+fn joined(bytes: &[u8]) -> usize {
+    bytes.iter().fold(0, |joined, byte| joined << 8 | *byte as usize)
+}
+
+/// Whether up to 3 bytes, of which the first is not 0, begin some well-formed character and are not all of it. Every character is tried, once.
+fn begins_some(bytes: &[u8]) -> bool {
+    static BEGINNINGS: OnceLock<Vec<bool>> = OnceLock::new();
+    let beginnings = BEGINNINGS.get_or_init(|| {
+        let mut beginnings = vec![false; 1 << 24];
+        for c in '\0'..=char::MAX {
+            let mut bytes = [0; 4];
+            let whole = c.encode_utf8(&mut bytes).as_bytes();
+            (1..whole.len()).for_each(|n| beginnings[joined(&whole[..n])] = true);
+        }
+        beginnings
+    });
+    beginnings[joined(bytes)]
+}
+
+/// What stands at a place and its length: a character, or what is broken and of no class, or nothing, of length 0. Document 02, #105: "at a place
+/// where no well-formed character begins, the unit is the longest run of bytes there that begins some well-formed character, or one byte if there is
+/// none."
 fn unit(text: &[u8], at: usize) -> (Option<char>, usize) {
     let rest = &text[at..];
     for n in 1..=rest.len().min(4) {
@@ -37,10 +61,11 @@ fn unit(text: &[u8], at: usize) -> (Option<char>, usize) {
             return (one.chars().next(), n);
         }
     }
-    (None, rest.len().min(1))
+    let longest = (1..=rest.len().min(3)).rev().find(|n| begins_some(&rest[..*n]));
+    (None, longest.unwrap_or(rest.len().min(1)))
 }
 
-/// Where the longest run of characters and broken bytes that pass a test ends.
+/// Where the longest run of characters and broken units that pass a test ends.
 fn run(text: &[u8], from: usize, test: impl Fn(Option<char>) -> bool) -> usize {
     let mut at = from;
     while at < text.len() && test(unit(text, at).0) {
@@ -323,7 +348,7 @@ pub fn part(call: &Call) -> u64 {
     }
 }
 
-/// What a place is read over: the text's characters, and each byte that begins none alone, with their lengths.
+/// What a place is read over: the text's characters and what is broken between them, with their lengths.
 fn characters(text: &[u8]) -> Vec<(Option<char>, usize)> {
     let mut characters = vec![];
     let mut at = 0;
@@ -340,7 +365,8 @@ fn ends_line(c: Option<char>, next: Option<char>) -> bool {
     c == Some('\n') || (c == Some('\r') && next != Some('\n'))
 }
 
-/// "columns are UTF-16 code units (two for a character above U+FFFF, otherwise one)", "A byte that begins no character counts as one unit."
+/// "columns are UTF-16 code units (two for a character above U+FFFF, otherwise one)"; of what is broken, #105: "the unit is one character of one
+/// column".
 fn columns(c: Option<char>) -> usize {
     if c.is_some_and(|c| c > '\u{FFFF}') {
         2

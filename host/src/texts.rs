@@ -202,6 +202,34 @@ pub fn damaged(r: &mut Random, text: &str) -> Vec<u8> {
     text
 }
 
+/// The first and the last character of each row of RFC 3629's table, and some between: the bytes that may go on after their first differ.
+#[rustfmt::skip]
+const TO_CUT: [char; 20] = [
+    '\u{80}', 'é', 'ש', '\u{7FF}', '\u{800}', '\u{FFF}', '\u{1000}', '‘', '一', '\u{D7FF}', '\u{E000}', '\u{FFFF}', '\u{10000}', '😀', '\u{3FFFF}',
+    '\u{40000}', '\u{80000}', '\u{FFFFF}', '\u{100000}', '\u{10FFFF}',
+];
+
+/// A text with up to 6 characters put in that are cut short after their first, second or third byte: anywhere, inside of other characters too.
+pub fn cut(r: &mut Random, text: &[u8]) -> Vec<u8> {
+    let mut text = text.to_vec();
+    for _ in 0..1 + r.below(6) {
+        let whole = r.one_of(&TO_CUT).to_string().into_bytes();
+        let (at, left) = (r.below(text.len() + 1), 1 + r.below(whole.len() - 1));
+        text.splice(at..at, whole.into_iter().take(left));
+    }
+    text
+}
+
+/// The worked cases of #105, of which four are the Unicode Standard's (tables 3-8 to 3-11): a text and its units, for each that is broken the digit of
+/// its length, and each letter for itself.
+pub const WORKED: [(&[u8], &str); 5] = [
+    (b"\xC0\xAF\xE0\x80\xBF\xF0\x81\x82A", "11111111A"),
+    (b"\xED\xA0\x80\xED\xBF\xBF\xED\xAFA", "11111111A"),
+    (b"\xF4\x91\x92\x93\xFFA\x80\xBFB", "11111A11B"),
+    (b"\xE1\x80\xE2\xF0\x91\x92\xF1\xBFA", "2132A"),
+    (b"a\xF1\x80\x80\xE1\x80\xC2b\x80c\x80\xBFd", "a321b1c11d"),
+];
+
 /// Runs to count places over: of characters of one to four bytes, and of several.
 const RUNS: [&str; 14] = ["a", "b", "select 1, ", "é", "ש", "\u{7FF}", "ა", "一", "\u{FFFD}", "😀", "𐐀", "aש", "שלום ", "a😀ა"];
 

@@ -2,7 +2,7 @@
 use host::{compare, protocol, reading, texts, Answer, Call, Op, Random, AROUND_THE_LIMIT, MAX_QUERY_SIZE};
 
 /// Compares the places of some offsets of a text: the library's with the second reading's, and those with the protocol's. The protocol is asked
-/// about the text itself or, where that is not UTF-8, about one with a letter for each broken byte.
+/// about the text itself or, where that is not UTF-8, about one with a letter for each broken part.
 fn compare_at(text: &[u8], offsets: impl IntoIterator<Item = u64>) -> usize {
     let (mended, places) = (protocol::mended(text), reading::places(text));
     let lines = protocol::lines(&mended);
@@ -32,9 +32,10 @@ fn compare_every(pieces: &[&[u8]], most: u32) -> (usize, usize) {
     (count, compared)
 }
 
-/// The characters that matter to a place, by their bytes, and bytes that begin none where the rest of a character is not there.
+/// The characters that matter to a place, by their bytes, and bytes of which cut characters of 1 to 3 bytes are made where the rest is not there.
 #[rustfmt::skip]
-const PIECES: [&[u8]; 11] = [b"a", b"\r", b"\n", "é".as_bytes(), "😀".as_bytes(), "ש".as_bytes(), b"\x80", b"\xC0", b"\xE2", b"\xED", b"\xF0"];
+const PIECES: [&[u8]; 12] =
+    [b"a", b"\r", b"\n", "é".as_bytes(), "😀".as_bytes(), "ש".as_bytes(), b"\x80", b"\x9F", b"\xC0", b"\xE2", b"\xED", b"\xF0"];
 
 #[test]
 fn every_text_of_up_to_six_characters_and_broken_bytes() {
@@ -68,18 +69,34 @@ fn every_character() {
 }
 
 /// Runs of characters of one length, and of several.
-const RUNS: [&str; 7] = ["a", "ש", "ა", "😀", "aש", "שა", "select 'שלום' ა😀 "];
-
-/// What ends a line or looks like it, characters of each length, and broken ones: cut, of surrogates, beyond the last, and too long for their code.
 #[rustfmt::skip]
-const BETWEEN: [&[u8]; 22] = [
+const RUNS: [&[u8]; 7] =
+    [b"a", "ש".as_bytes(), "ა".as_bytes(), "😀".as_bytes(), "aש".as_bytes(), "שა".as_bytes(), "select 'שלום' ა😀 ".as_bytes()];
+
+/// Runs of cut characters of each length, and of these beside whole ones of each: the blocks that places are counted by are told by the bytes in them.
+#[rustfmt::skip]
+const CUT_RUNS: [&[u8]; 10] = [
+    b"\xC2", b"\xE1\x80", b"\xE0\xA0", b"\xF1\x80\x80", b"\xF0\x9F\x98", b"a\xE2\x80", b"\xD7\xA9\xC2\xE1\x80", b"\xE1\x83\x90\xE1\x80\xF0\x9F\x98",
+    b"\xF0\x9F\x98\x80\xE1\x80\xF0\x9F", b"a\xE1\x80\xD7\xA9\xF0\x9F\x98\xE1\x83\x90\xC2\xF0\x9F\x98\x80\xF1\x80\x80",
+];
+
+/// Both.
+fn all_runs() -> impl Iterator<Item = &'static [u8]> {
+    RUNS.into_iter().chain(CUT_RUNS)
+}
+
+/// What ends a line or looks like it, characters of each length, and broken ones: cut after each of their bytes, with a line's end beside them too, of
+/// surrogates, beyond the last, and too long for their code. Two last bytes make whole what is cut.
+#[rustfmt::skip]
+const BETWEEN: [&[u8]; 31] = [
     b"\r\n", b"\r", b"\n", b"\n\r", b"\r\r\n\n", b"\n\x0B", b"\r\x0C", b"\xE2\x80\xA8", b"\xC4\x8A", b"a", "ש".as_bytes(), "ა".as_bytes(),
     "😀".as_bytes(), b"\x80", b"\xD7", b"\xE2\x80", b"\xF0\x9F\x98", b"\xED\xA0\x80", b"\xF4\x90\x80\x80", b"\xC0\x80", b"\xE0\x80\x8A", b"\xFF",
+    b"\xE0\xA0", b"\xED\x9F", b"\xF0\x9F", b"\xF1\x80\x80", b"\xF4\x8F\xBF", b"\xE2\x80\n", b"\r\xE2\x80", b"\r\xF0\x9F\x98\r\n", b"\x80\x80",
 ];
 
 /// A run of some bytes at least.
-fn run(of: &str, bytes: usize) -> Vec<u8> {
-    of.repeat(bytes / of.len() + 1).into_bytes()
+fn run(of: &[u8], bytes: usize) -> Vec<u8> {
+    of.repeat(bytes / of.len() + 1)
 }
 
 /// Places are counted in blocks, which begin where the text, a line or the offset lets them: everything stands at each place of several blocks, in
@@ -87,12 +104,12 @@ fn run(of: &str, bytes: usize) -> Vec<u8> {
 #[test]
 fn one_thing_at_every_place_of_a_run() {
     let mut compared = 0;
-    for (run, between) in RUNS.iter().flat_map(|of| BETWEEN.map(|between| (run(of, 260), between))) {
+    for (run, between) in all_runs().flat_map(|of| BETWEEN.map(|between| (run(of, 260), between))) {
         for at in 0..=run.len() {
             compared += compare_everywhere(&[&run[..at], between, &run[at..]].concat());
         }
     }
-    println!("each of {} things at every place of {} runs, everywhere: {compared} calls", BETWEEN.len(), RUNS.len());
+    println!("each of {} things at every place of {} runs, everywhere: {compared} calls", BETWEEN.len(), all_runs().count());
 }
 
 /// A line that begins anywhere in the first blocks, and something at every place after its beginning.
@@ -114,12 +131,12 @@ fn one_thing_at_every_place_of_a_line() {
 #[test]
 fn every_part_of_a_run() {
     let mut compared = 0;
-    for run in RUNS.map(|of| run(of, 260)) {
+    for run in all_runs().map(|of| run(of, 260)) {
         for start in 0..=16 {
             compared += (start..=run.len()).map(|end| compare_everywhere(&run[start..end])).sum::<usize>();
         }
     }
-    println!("every part of {} runs from their first 17 bytes on, everywhere: {compared} calls", RUNS.len());
+    println!("every part of {} runs from their first 17 bytes on, everywhere: {compared} calls", all_runs().count());
 }
 
 /// As long as a count that is held in a byte or in two of a block's would overflow.
@@ -127,7 +144,7 @@ fn every_part_of_a_run() {
 fn long_runs() {
     let mut r = Random(0x636920D871574E69);
     let mut compared = 0;
-    for of in RUNS.map(str::as_bytes).into_iter().chain(BETWEEN) {
+    for of in all_runs().chain(BETWEEN) {
         let text = of.repeat(300_000 / of.len());
         let anywhere = (0..300).map(|_| r.below(text.len()) as u64);
         let around = (1..=16).flat_map(|k| [2040, 4080, 8160, 16_320].map(|bytes| k * bytes)).flat_map(|at| at - 1..=at + 1);
@@ -145,7 +162,11 @@ fn random_texts() {
     for i in 0..n {
         let mut text = if i % 3 < 2 { texts::lines(&mut r) } else { texts::random(&mut r) };
         text.truncate(text.floor_char_boundary(1500));
-        let text = if i % 2 == 0 { text.into_bytes() } else { texts::damaged(&mut r, &text) };
+        let text = match i % 4 {
+            0 | 2 => text.into_bytes(),
+            1 => texts::cut(&mut r, text.as_bytes()),
+            _ => texts::damaged(&mut r, &text),
+        };
         match std::str::from_utf8(&text) {
             Ok(valid) => astral += valid.chars().any(|c| c.len_utf16() == 2) as usize,
             Err(_) => broken += 1,
@@ -188,7 +209,7 @@ fn ascii_without_cr_has_the_places_of_old() {
 fn sizes() {
     let mut compared = 0;
     for length in AROUND_THE_LIMIT {
-        for piece in RUNS.map(str::as_bytes).into_iter().chain(BETWEEN) {
+        for piece in all_runs().chain(BETWEEN) {
             let mut text = piece.repeat(MAX_QUERY_SIZE / piece.len() + 2);
             text.truncate(length);
             let end = length as u64;

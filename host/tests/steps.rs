@@ -1,5 +1,6 @@
-//! Single steps, through the C function: against the Rust from every token's edge, and against the second reading from everywhere.
-use host::{compare, reading, texts, Answer, Call, Op, Random, AROUND_THE_LIMIT, MAX_QUERY_SIZE};
+//! Single steps, through the C function: against the Rust from every token's edge, against the second reading from everywhere, and what is broken
+//! against `utf8_chunks`.
+use host::{ask, compare, reading, texts, Answer, Call, Op, Random, AROUND_THE_LIMIT, MAX_QUERY_SIZE};
 
 /// What document 01 has for a step, by the second reading.
 fn want(call: &Call) -> Answer {
@@ -17,8 +18,9 @@ fn compare_everywhere(texts: &[Vec<u8>]) -> usize {
     compare(&calls, calls.iter().map(want))
 }
 
-/// Bytes that start, go on with, end and break the characters that the rules name, and what they stand beside.
-const BYTES: [u8; 22] = *b"'\\$a0.e\n \xE2\x80\x98\x99\xC2\xA0\xC3\xA9\xF0\x9F\xED\xFF-";
+/// Bytes that start, go on with, end and break the characters that the rules name, and what they stand beside. What is broken of these has 1 byte, or
+/// 2 as E0 A0 and ED 9F, or 3 as F0 9F 98; and of E0 9F, ED A0, F0 80 and F4 9F each byte stands alone.
+const BYTES: [u8; 24] = *b"'\\$a0.e\n \xE2\x80\x98\x99\xC2\xA0\xC3\xA9\xE0\xF0\x9F\xED\xF4\xFF-";
 
 #[test]
 fn from_everywhere_in_every_sequence_of_up_to_four_bytes() {
@@ -33,6 +35,106 @@ fn from_everywhere_in_every_sequence_of_up_to_four_bytes() {
     println!("every sequence of up to 4 of {} bytes, from everywhere: {compared} steps", BYTES.len());
 }
 
+/// Cut characters of each length, with the least and the greatest bytes that may go on; pairs that begin none, and bytes alone; and whole characters.
+#[rustfmt::skip]
+const BROKEN: [&[u8]; 26] = [
+    b"\xC3", b"\xE2", b"\xF0", b"\xF4", b"\xE0\xA0", b"\xE2\x80", b"\xED\x9F", b"\xEF\xBF", b"\xF0\x90", b"\xF0\x9F", b"\xF4\x8F", b"\xF0\x9F\x98",
+    b"\xF1\x80\x80", b"\xF4\x8F\xBF", b"\xC0\xAF", b"\xE0\x80", b"\xED\xA0", b"\xF0\x8F", b"\xF4\x90", b"\xF5\x80", b"\x80", b"\xFF", b"\xC3\xA9",
+    b"\xE2\x80\x99", b"\xE2\x80\x83", b"\xF0\x9F\x98\x80",
+];
+
+/// What stands before and after: nothing, each kind of literal with and without its end, words, numbers, tags, operators and what a backslash takes.
+#[rustfmt::skip]
+const AROUND: [(&str, &str); 45] = [
+    ("", ""), ("'", "'"), ("'", ""), ("\"", "\""), ("\"", ""), ("`", "`"), ("`", ""), ("‘", "’"), ("‘", ""), ("“", "”"), ("“", ""), ("--", "\n"),
+    ("--", ""), ("/*", "*/"), ("/*/*", "*/*/"), ("/*", ""), ("/", "*"), ("$", "$b$a$"), ("$a", "$b$a$"), ("$a$", "$a$"), ("$a$", "$a"), ("$$", "$$"),
+    ("$$", ""), ("a", "b"), ("_", "é"), ("aé", "1"), ("1", "x"), ("12", "_3"), ("0x", "1"), ("1e", "5"), ("1.", "e5"), (".", "1"), ("1a$", "$"),
+    (" ", " "), ("\u{A0}", "\u{2003}"), ("\\", "G"), ("\\", ""), ("'\\", "'"), ("'\\", "''"), ("`\\", "`"), ("-", "-"), ("=", ">"),
+    ("<", "="), ("@", "'a'"), ("’", "\"a\""),
+];
+
+#[test]
+fn from_everywhere_in_broken_characters_within_everything() {
+    let mut compared = 0;
+    for (before, after) in AROUND {
+        let mut texts = vec![];
+        for (one, two) in BROKEN.iter().flat_map(|one| BROKEN.map(|two| (one, two))) {
+            texts.push([before.as_bytes(), one, two, after.as_bytes()].concat());
+            texts.push([before.as_bytes(), one, after.as_bytes(), two].concat());
+        }
+        // Long enough that what stands before and after goes by eights, and by blocks of 64 bytes.
+        for (one, with) in BROKEN.iter().flat_map(|one| ["a", "1", " ", "é"].map(|with| (one, with))) {
+            for (left, right) in (0..=9).flat_map(|left| [0, 1, 7, 8, 9, 90].map(|right| (left, right))) {
+                let (left, right) = (with.repeat(left), with.repeat(right));
+                texts.push([before.as_bytes(), left.as_bytes(), one, right.as_bytes(), after.as_bytes()].concat());
+            }
+        }
+        compared += compare_everywhere(&texts);
+    }
+    println!("{} broken characters and others within {} surroundings, from everywhere: {compared} steps", BROKEN.len(), AROUND.len());
+}
+
+/// The tokens of a text by the library, from step to step.
+fn walked(text: &[u8]) -> Vec<(u64, usize, usize)> {
+    let (mut tokens, mut at) = (vec![], 0);
+    while at < text.len() {
+        let answer = ask(&[Call::read(Op::Step, at as u64, text)])[0].answer;
+        let (kind, end) = (answer >> 48, (answer & 0xFFFF_FFFF_FFFF) as usize);
+        assert!(end > at && end <= text.len(), "{answer:016x} at {at} of {}", text.escape_ascii());
+        tokens.push((kind, at, end));
+        at = end;
+    }
+    tokens
+}
+
+/// Holds the ErrorTokens of a text of letters, spaces, single quotes and what is broken to `utf8_chunks`, with no second reading: they are just the
+/// broken parts that stand in no string, which is after an even number of quotes. Adds how many there are of each length. A text in which broken bytes
+/// make a character is passed over.
+fn compare_errors(text: &[u8], counts: &mut [usize; 4]) -> bool {
+    if text.utf8_chunks().any(|chunk| !chunk.valid().is_ascii()) {
+        return false;
+    }
+    let (mut want, mut at, mut quotes) = (vec![], 0, 0);
+    for chunk in text.utf8_chunks() {
+        let (start, length) = (at + chunk.valid().len(), chunk.invalid().len());
+        quotes += chunk.valid().matches('\'').count();
+        at = start + length;
+        if length > 0 && quotes % 2 == 0 {
+            want.push((start, at));
+            counts[length] += 1;
+        }
+    }
+    let errors: Vec<(usize, usize)> = walked(text).into_iter().filter(|token| token.0 == 47).map(|token| (token.1, token.2)).collect();
+    assert_eq!(errors, want, "{}", text.escape_ascii());
+    true
+}
+
+/// A letter, a space and a quote, and bytes that make what is broken of each length.
+const OF_ERRORS: [u8; 11] = *b"a '\xC3\xE0\xE2\xED\xF0\x80\x9F\xA0";
+
+#[test]
+fn the_error_tokens_are_the_broken_parts() {
+    let (mut texts, mut counts) = (0, [0; 4]);
+    for length in 0..=6 {
+        for i in 0..OF_ERRORS.len().pow(length) {
+            let text: Vec<u8> = (0..length).rev().map(|k| OF_ERRORS[i / OF_ERRORS.len().pow(k) % OF_ERRORS.len()]).collect();
+            texts += compare_errors(&text, &mut counts) as usize;
+        }
+    }
+    let mut r = Random(0x3C6EF372FE94F82B);
+    let n = texts::how_many(30_000);
+    for _ in 0..n {
+        let ascii: Vec<u8> = (0..r.below(200)).map(|_| r.one_of(b"aaaaaaaaaaaaaaaaaaaaaaaab        '")).collect();
+        texts += compare_errors(&texts::cut(&mut r, &ascii), &mut counts) as usize;
+    }
+    let [_, one, two, three] = counts;
+    println!(
+        "every text of up to 6 of {} bytes and {n} random ones, without characters past ASCII: {texts} texts with {one}, {two} and {three} ErrorTokens \
+         of 1, 2 and 3 bytes, all of them broken parts",
+        OF_ERRORS.len()
+    );
+}
+
 #[test]
 fn from_everywhere_in_random_texts() {
     let mut r = Random(0x452821E638D01377);
@@ -43,10 +145,10 @@ fn from_everywhere_in_random_texts() {
             let mut text = texts::random(&mut r);
             // A step may read to the text's end, so that steps from everywhere take the square of the length.
             text.truncate(text.floor_char_boundary(500));
-            if i % 4 > 0 {
-                texts::damaged(&mut r, &text)
-            } else {
-                text.into_bytes()
+            match i % 4 {
+                0 => text.into_bytes(),
+                1 => texts::cut(&mut r, text.as_bytes()),
+                _ => texts::damaged(&mut r, &text),
             }
         };
         compared += compare_everywhere(&(0..100).map(text).collect::<Vec<_>>());

@@ -91,8 +91,9 @@ fn text_that_is_not_utf8() {
         assert_eq!(list_up_to(text, Mode::Full, 0), Err(refusal));
         assert_eq!(mask(text), Err(refusal));
     }
-    // "A step reads a byte that begins no well-formed character as one character of one byte and of no class."
+    // Change request #105: "the unit is the longest run of bytes there that begins some well-formed character, or one byte if there is none."
     assert_eq!(triples(steps(b"\x61\xC0\x80").unwrap()), [(4, 0, 1), (47, 1, 2), (47, 2, 3)]);
+    assert_eq!(triples(steps(b"\x61\xE2\x80\x62\xF0\x9F\x98").unwrap()), [(4, 0, 1), (47, 1, 3), (4, 3, 4), (47, 4, 7)]);
 }
 
 #[test]
@@ -136,7 +137,7 @@ fn parts() {
 
 /// Line and column of each offset of a text. The second to the seventh are the worked cases of change request #103.
 #[rustfmt::skip]
-const PLACES: [(&[u8], &[(u32, u32)]); 12] = [
+const PLACES: [(&[u8], &[(u32, u32)]); 13] = [
     (b"a\n\nbc", &[(0, 0), (0, 1), (1, 0), (2, 0), (2, 1), (2, 2)]),
     (b"a\r\nb", &[(0, 0), (0, 1), (0, 2), (1, 0), (1, 1)]),
     (b"\r\r\n\n", &[(0, 0), (1, 0), (1, 1), (2, 0), (3, 0)]),
@@ -150,8 +151,9 @@ const PLACES: [(&[u8], &[(u32, u32)]); 12] = [
     ("\u{FFFF}\u{10000}".as_bytes(), &[(0, 0), (0, 0), (0, 0), (0, 1), (0, 1), (0, 1), (0, 1), (0, 3)]),
     // What else ends a line in Unicode ends none here.
     ("\u{85}\u{2028}\x0B\x0C".as_bytes(), &[(0, 0), (0, 0), (0, 1), (0, 1), (0, 1), (0, 2), (0, 3), (0, 4)]),
-    // A surrogate and a character cut short: each byte begins no character.
-    (b"\xED\xA0\x80\xF0\x90\r\n", &[(0, 0), (0, 1), (0, 2), (0, 3), (0, 4), (0, 5), (0, 6), (1, 0)]),
+    // A surrogate, of which each byte stands alone, and characters cut short, each of one column.
+    (b"\xED\xA0\x80\xF0\x90\r\n", &[(0, 0), (0, 1), (0, 2), (0, 3), (0, 3), (0, 4), (0, 5), (1, 0)]),
+    (b"\xE2\x80\xF0\x9F\x98\xC2", &[(0, 0), (0, 0), (0, 1), (0, 1), (0, 1), (0, 2), (0, 3)]),
 ];
 
 #[test]
