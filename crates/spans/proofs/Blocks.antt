@@ -1,6 +1,6 @@
 -- What the bytes of a block add to the sums, by the least and the greatest of them. Assumes nothing.
 use Prim.Native.Nat.{ℕ, zero, suc, _+_, _-_, _*_, _≤_, _<_}
-use mathlib.Core.Path.{_≡_, refl, ap, _∙_}
+use mathlib.Core.Path.{_≡_, refl, sym, ap, _∙_}
 use mathlib.Core.List.{List}
 use mathlib.Core.Logic.{_⊎_, inl, inr}
 use mathlib.Core.Bool.{Bool, true, false}
@@ -12,17 +12,9 @@ use Rattle.rules.specs.Characters.{lineFeed, carriageReturn}
 use Rattle.rules.specs.Places.{endsLine}
 use Rattle.spans.specs.Sums.{bit, between, endAt, surplusAt, marked, markAt, Within}
 use Rattle.spans.specs.declared.places.Mark.{Mark}
-use Rattle.spans.specs.declared.places.Mark.the-variants.{End, Lead, Two, OddThree, OddFour}
-use Rattle.spans.proofs.Sums.{sum-zero, sum-same, sum-some, sum-twice, sum-most, sum-start, sum-more}
-use Rattle.spans.proofs.Surplus.{surplus-most, surplus-low, surplus-two, surplus-three, surplus-four, surplus-next}
-
-bit-most : (t : Bool) → bit t ≤ 1
-bit-most true = omega arith
-bit-most false = omega arith
-
-bit-none : (t : Bool) → bit t ≡ 0 → t ≡ false
-bit-none true e = absurd (omega arith)
-bit-none false e = refl
+use Rattle.spans.specs.declared.places.Mark.the-variants.{End, Lead, Two, Three, Four}
+use Rattle.spans.proofs.Sums.{sum-zero, sum-same, sum-even, sum-twice, sum-most, sum-start, sum-more}
+use Rattle.spans.proofs.Surplus.{bit-most, surplus-most, surplus-low, surplus-two, surplus-three, surplus-four, surplus-none, surplus-next}
 
 -- The surplus, by the greatest.
 module _ (s : List ℕ) (i j : ℕ) (h : j ≤ length s) where
@@ -38,18 +30,30 @@ module _ (s : List ℕ) (i j : ℕ) (h : j ≤ length s) where
   pub block-two : Below 0xE0 → between (surplusAt s) i j ≡ marks Two
   block-two p = sum-same (surplusAt s) i (markAt Two s) j (λ k l u. surplus-two s k (omega arith) (p k l u))
 
-  -- where no lead is odd
-  twice : (odd : Mark) → marks odd ≡ 0 → ((k : ℕ) → i ≤ k → k < j → marked odd (getD s k 0) (getD s (k + 1) 0) (getD s (k + 2) 0) ≡ false → surplusAt s k ≡ 2 * markAt Lead s k)
-      → between (surplusAt s) i j ≡ 2 * marks Lead
-  twice odd o f =
-      sum-same (surplusAt s) i (λ k. 2 * markAt Lead s k) j (λ k l u. f k l u (bit-none _ (omega (arith, sum-some (markAt odd s) i j k l u))))
-      ∙ sum-twice (markAt Lead s) i j
+  -- Where each lead has a mark that gives it a second byte and a third
+  module _ (m : Mark) (has : (k : ℕ) → i ≤ k → k < j → marked m (getD s k 0) (getD s (k + 1) 0) (getD s (k + 2) 0) ≡ true → (surplusAt s k ≡ 2) × (markAt Lead s k ≡ 1)) where
+    fewer : (k : ℕ) → i ≤ k → k < j → markAt m s k ≤ markAt Lead s k
+    fewer k l u = go (marked m (getD s k 0) (getD s (k + 1) 0) (getD s (k + 2) 0)) refl
+      where
+        go : (t : Bool) → marked m (getD s k 0) (getD s (k + 1) 0) (getD s (k + 2) 0) ≡ t → markAt m s k ≤ markAt Lead s k
+        go true e = omega (arith, ap bit e, has k l u e .1)
+        go false e = omega (arith, ap bit e)
 
-  pub block-three : Below 0xF0 → marks OddThree ≡ 0 → between (surplusAt s) i j ≡ 2 * marks Lead
-  block-three p o = twice OddThree o (λ k l u. surplus-three s k (omega arith) (p k l u))
+    all-twice : marks m ≡ marks Lead → between (surplusAt s) i j ≡ 2 * marks Lead
+    all-twice e =
+        sum-same (surplusAt s) i (λ k. 2 * markAt Lead s k) j
+        (λ k l u. each k l u (marked m (getD s k 0) (getD s (k + 1) 0) (getD s (k + 2) 0)) refl (sum-even (markAt m s) (markAt Lead s) i j fewer e k l u))
+        ∙ sum-twice (markAt Lead s) i j
+      where
+        each : (k : ℕ) → i ≤ k → k < j → (t : Bool) → marked m (getD s k 0) (getD s (k + 1) 0) (getD s (k + 2) 0) ≡ t → markAt m s k ≡ markAt Lead s k → surplusAt s k ≡ 2 * markAt Lead s k
+        each k l u true e q = let p = has k l u e in omega arith
+        each k l u false e q = omega (arith, q, ap bit e, surplus-none s k (omega arith) (sym q ∙ ap bit e))
 
-  pub block-four : marks OddFour ≡ 0 → between (surplusAt s) i j ≡ 2 * marks Lead
-  block-four o = twice OddFour o (λ k l u. surplus-four s k (omega arith))
+  pub block-three : Below 0xF0 → marks Three ≡ marks Lead → between (surplusAt s) i j ≡ 2 * marks Lead
+  block-three p = all-twice Three (λ k l u. surplus-three s k (omega arith) (p k l u))
+
+  pub block-four : marks Four ≡ marks Lead → between (surplusAt s) i j ≡ 2 * marks Lead
+  block-four = all-twice Four (λ k l u. surplus-four s k (omega arith))
 
   pub block-most : i ≤ j → between (surplusAt s) i j ≤ 2 * (j - i)
   block-most o = sum-most (surplusAt s) i 2 j o (λ k l u. surplus-most s k (omega arith))

@@ -76,6 +76,30 @@ module _ (f : ℕ → ℕ) (i : ℕ) where
 pub sum-zero : (f : ℕ → ℕ) (i j : ℕ) → i ≤ j → ((k : ℕ) → i ≤ k → k < j → f k ≡ 0) → between f i j ≡ 0
 sum-zero f i j h p = omega (arith, sum-most f i 0 j h (λ k l u. omega (arith, p k l u)))
 
+-- what is no more at any index and has the same sum is the same at each
+below : (f g : ℕ → ℕ) (i n : ℕ) → ((k : ℕ) → i ≤ k → k < i + n → f k ≤ g k) → sumOver f i n ≤ sumOver g i n
+unfolding sumOver
+below f g i zero p = omega arith
+below f g i (suc n) p = omega (arith, p (i + n) (omega arith) (omega arith), below f g i n (λ k l u. p k l (omega arith)))
+
+even : (f g : ℕ → ℕ) (i n : ℕ) → ((k : ℕ) → i ≤ k → k < i + n → f k ≤ g k) → sumOver f i n ≡ sumOver g i n → (k : ℕ) → i ≤ k → k < i + n → f k ≡ g k
+unfolding sumOver
+even f g i zero p e k l u = absurd (omega arith)
+even f g i (suc n) p e k l u = go (decLt k (i + n)) (λ v. even f g i n (λ k l u. p k l (omega arith)) (omega (arith, less, last)) k l v)
+  where
+    less : sumOver f i n ≤ sumOver g i n
+    less = below f g i n (λ k l u. p k l (omega arith))
+
+    last : f (i + n) ≤ g (i + n)
+    last = p (i + n) (omega arith) (omega arith)
+
+    go : Dec (k < i + n) → (k < i + n → f k ≡ g k) → f k ≡ g k
+    go (yes v) ih = ih v
+    go (no v) ih = let q : k ≡ i + n = omega arith in ap f q ∙ omega (arith, less, last) ∙ sym (ap g q)
+
+pub sum-even : (f g : ℕ → ℕ) (i j : ℕ) → ((k : ℕ) → i ≤ k → k < j → f k ≤ g k) → between f i j ≡ between g i j → (k : ℕ) → i ≤ k → k < j → f k ≡ g k
+sum-even f g i j p e k l u = even f g i (j - i) (λ k l u. p k l (omega arith)) e k l (omega arith)
+
 -- with the index before
 pub sum-before : (f : ℕ → ℕ) (i j : ℕ) → 0 < i → i ≤ j → between f (i - 1) j ≡ f (i - 1) + between f i j
 sum-before f i j p h =

@@ -14,11 +14,15 @@ use Rattle.rules.proofs.Tests.{clash, and-both}
 use Rattle.rules.proofs.Decoding.{three-first, three-surrogate, three-other, four-first, four-last, four-other, four-above, at-index, begun-index, begun-low, begun-middle, begun-high, formed-one, formed-low, formed-two, formed-three, formed-four, form-of, form-most, broken-range, width-broken, width-formed, some-left}
 use Rattle.rules.proofs.Places.{units-four, units-other}
 use Rattle.spans.specs.Sums.{bit, surplusAt, goesOn, surplusBy, marked, markAt}
-use Rattle.spans.specs.declared.places.Mark.the-variants.{Lead, Two, OddThree, OddFour}
+use Rattle.spans.specs.declared.places.Mark.the-variants.{Lead, Two, Three, Four}
 
 and-true : (x : Bool) → (x && true) ≡ x
 and-true true = refl
 and-true false = refl
+
+pub bit-most : (t : Bool) → bit t ≤ 1
+bit-most true = omega arith
+bit-most false = omega arith
 
 -- a tail that is bounded more
 from-low : (lo b : ℕ) → 0x80 ≤ lo → (utf8Tail b && leb lo b) ≡ within lo 0xBF b
@@ -180,10 +184,6 @@ module _ (s : List ℕ) (i : ℕ) (h : i < length s) where
           let e : (goesOn a b && leb 0xE0 a) ≡ goesOn a b = rw (le-leb 0xE0 a (omega arith)) (and-true (goesOn a b)) in
           parts (omega arith) ∙ sym (ap (λ (t : Bool). bit (goesOn a b) + bit (t && utf8Tail c)) e)
 
-  bit-most : (t : Bool) → bit t ≤ 1
-  bit-most true = omega arith
-  bit-most false = omega arith
-
   pub surplus-most : surplusAt s i ≤ 2
   surplus-most = omega (arith, surplus-parts, bit-most (goesOn a b), bit-most ((goesOn a b && leb 0xE0 a) && utf8Tail c))
 
@@ -207,42 +207,37 @@ module _ (s : List ℕ) (i : ℕ) (h : i < length s) where
       go (yes l) = surplus-low l ∙ sym (rw (lt-leb 0xC2 a l))
       go (no l) = first-two (omega arith) u ∙ sym (rw (le-leb 0xC2 a (omega arith), le-leb a 0xDF (omega arith)))
 
-  -- two at each lead, where all go on to a third byte
-  twice : goesOn a b ≡ true → 0xE0 ≤ a → utf8Tail c ≡ true → surplusAt s i ≡ 2 * bit (leb 0xC2 a)
-  twice g l t = parts l ∙ ap₂ (λ (x y : Bool). bit x + bit (x && y)) g t ∙ sym (rw (le-leb 0xC2 a (omega arith)))
+  -- two, where it goes on to a third byte
+  twice : goesOn a b ≡ true → 0xE0 ≤ a → utf8Tail c ≡ true → surplusAt s i ≡ 2
+  twice g l t = parts l ∙ ap₂ (λ (x y : Bool). bit x + bit (x && y)) g t
 
-  -- of a lead that is not odd: the test of it, once that of a lead is gone
-  kept : (x y : Bool) → x ≡ true → (x && not y) ≡ false → y ≡ true
-  kept x true e f = refl
-  kept x false e f = clash (rw e) f
-
-  no-lead : a < 0xC2 → surplusAt s i ≡ 2 * bit (leb 0xC2 a)
-  no-lead l = surplus-low l ∙ sym (rw (lt-leb 0xC2 a l))
-
-  pub surplus-three : a < 0xF0 → marked OddThree a b c ≡ false → surplusAt s i ≡ 2 * markAt Lead s i
+  pub surplus-three : a < 0xF0 → marked Three a b c ≡ true → (surplusAt s i ≡ 2) × (markAt Lead s i ≡ 1)
   unfolding marked
-  surplus-three u o = go (decLt a 0xC2)
-    where
-      go : Dec (a < 0xC2) → surplusAt s i ≡ 2 * bit (leb 0xC2 a)
-      go (yes l) = no-lead l
-      go (no l) =
-          let k = and-both (leb 0xE1 a && not (eqb a 0xED)) (utf8Tail b && utf8Tail c) (kept (leb 0xC2 a) _ (le-leb 0xC2 a (omega arith)) o) in
-          let f = and-both (leb 0xE1 a) (not (eqb a 0xED)) (k .0) in
-          let t = and-both (utf8Tail b) (utf8Tail c) (k .1) in
-          let m = leb-true 0xE1 a (f .0) in
-          twice (goes-plain a b (omega arith) (omega arith) (λ e. omega arith) (eqb-false a 0xED (not-true _ (f .1))) (λ e. omega arith) ∙ t .0) (omega arith) (t .1)
+  surplus-three u e =
+      let k = and-both (leb 0xE1 a && not (eqb a 0xED)) (utf8Tail b && utf8Tail c) e in
+      let f = and-both (leb 0xE1 a) (not (eqb a 0xED)) (k .0) in
+      let t = and-both (utf8Tail b) (utf8Tail c) (k .1) in
+      let m = leb-true 0xE1 a (f .0) in (
+        twice (goes-plain a b (omega arith) (omega arith) (λ e. omega arith) (eqb-false a 0xED (not-true _ (f .1))) (λ e. omega arith) ∙ t .0) (omega arith) (t .1),
+        ap bit (le-leb 0xC2 a (omega arith)),
+      )
 
-  pub surplus-four : marked OddFour a b c ≡ false → surplusAt s i ≡ 2 * markAt Lead s i
+  pub surplus-four : marked Four a b c ≡ true → (surplusAt s i ≡ 2) × (markAt Lead s i ≡ 1)
   unfolding marked
-  surplus-four o = go (decLt a 0xC2)
+  surplus-four o =
+      let k = and-both (eqb a 0xF0 && within 0x90 0xBF b) (utf8Tail c) o in
+      let f = and-both (eqb a 0xF0) (within 0x90 0xBF b) (k .0) in
+      let e = eqb-true a 0xF0 (f .0) in
+      (twice (goes-four a b e ∙ f .1) (omega arith) (k .1), ap bit (le-leb 0xC2 a (omega arith)))
+
+  -- none, where it is no lead
+  pub surplus-none : markAt Lead s i ≡ 0 → surplusAt s i ≡ 0
+  unfolding marked
+  surplus-none e = go (decLt a 0xC2)
     where
-      go : Dec (a < 0xC2) → surplusAt s i ≡ 2 * bit (leb 0xC2 a)
-      go (yes l) = no-lead l
-      go (no l) =
-          let k = and-both (eqb a 0xF0 && within 0x90 0xBF b) (utf8Tail c) (kept (leb 0xC2 a) _ (le-leb 0xC2 a (omega arith)) o) in
-          let f = and-both (eqb a 0xF0) (within 0x90 0xBF b) (k .0) in
-          let e = eqb-true a 0xF0 (f .0) in
-          twice (goes-four a b e ∙ f .1) (omega arith) (k .1)
+      go : Dec (a < 0xC2) → surplusAt s i ≡ 0
+      go (yes l) = surplus-low l
+      go (no l) = absurd (omega (arith, e, ap bit (le-leb 0xC2 a (omega arith))))
 
 -- After a byte that adds comes a tail, which adds nothing.
 pub surplus-next : (s : List ℕ) (i : ℕ) → i + 1 < length s → 0 < surplusAt s i → surplusAt s (i + 1) ≡ 0

@@ -9,7 +9,7 @@ use lib.ListN.{length, getD, drop}
 use Rattle.rules.specs.Utf8.{within, utf8Tail, utf8Two, width, charAt}
 use Rattle.rules.specs.Places.{units, endsLine}
 use Rattle.spans.specs.declared.places.Mark.{Mark}
-use Rattle.spans.specs.declared.places.Mark.the-variants.{End, Lead, Two, OddThree, OddFour}
+use Rattle.spans.specs.declared.places.Mark.the-variants.{End, Lead, Two, Three, Four}
 
 -- The sum of a function over n indices, from i on.
 unfoldable pub sumOver : (ℕ → ℕ) → ℕ → ℕ → ℕ
@@ -47,8 +47,8 @@ unfoldable pub marked : Mark → ℕ → ℕ → ℕ → Bool
 marked End a b c = endsLine a b
 marked Lead a b c = leb 0xC2 a
 marked Two a b c = utf8Two a b
-marked OddThree a b c = leb 0xC2 a && not ((leb 0xE1 a && not (eqb a 0xED)) && (utf8Tail b && utf8Tail c))
-marked OddFour a b c = leb 0xC2 a && not ((eqb a 0xF0 && within 0x90 0xBF b) && utf8Tail c)
+marked Three a b c = (leb 0xE1 a && not (eqb a 0xED)) && (utf8Tail b && utf8Tail c)
+marked Four a b c = (eqb a 0xF0 && within 0x90 0xBF b) && utf8Tail c
 
 -- 1 where the byte is marked.
 abbrev pub markAt : Mark → List ℕ → ℕ → ℕ

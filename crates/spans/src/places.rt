@@ -33,10 +33,10 @@ pub enum Mark {
     Lead,
     // A character of two bytes.
     Two,
-    // A lead, but for those from E1 on that two tails follow, ED apart: where none is above EF, these have three bytes.
-    OddThree,
-    // A lead, but for F0 with a second byte and a third.
-    OddFour,
+    // A lead from E1 on, but for ED, with two tails: three bytes, where none is above EF.
+    Three,
+    // F0 with a second byte and a third.
+    Four,
 }
 
 // The line that an index is in: where it starts, and what its characters before the index have more of bytes than of units.
@@ -71,12 +71,8 @@ fn is_marked(mark: Mark, a: u8, b: u8, c: u8) -> bool
         Mark::End => ends_line(a, b),
         Mark::Lead => 0xC2 <= a,
         Mark::Two => is_two(a, b),
-        Mark::OddThree => {
-            (0xC2 <= a) & !(((0xE1 <= a) & (a != 0xED)) & (is_tail(b) & is_tail(c)))
-        }
-        Mark::OddFour => {
-            (0xC2 <= a) & !(((a == 0xF0) & ((0x90 <= b) & (b <= 0xBF))) & is_tail(c))
-        }
+        Mark::Three => ((0xE1 <= a) & (a != 0xED)) & (is_tail(b) & is_tail(c)),
+        Mark::Four => ((a == 0xF0) & ((0x90 <= b) & (b <= 0xBF))) & is_tail(c),
     }
 }
 
@@ -147,10 +143,14 @@ fn surplus_by(a: u8, b: u8, c: u8, four: bool) -> u8
     ensures { λ r. ⌜ r ≡ surplusBy a b c ⌝ }
 {
     let second = goes_on(a, b, four);
-    if (second & (0xE0 <= a)) & is_tail(c) {
-        return 2;
+    let mut n: u8 = 0;
+    if second {
+        n += 1;
     }
-    if second { 1 } else { 0 }
+    if (second & (0xE0 <= a)) & is_tail(c) {
+        n += 1;
+    }
+    n
 }
 
 // Over a block of any characters. No byte after a first adds to it, so that a byte holds it; the compiler knows `four` at each call.
@@ -167,7 +167,7 @@ fn surplus_of_any(text: &[u8], from: usize, four: bool) -> u8
     n
 }
 
-// The same in a shorter way, where the block's greatest byte and its leads allow one.
+// The same in a shorter way, where no lead needs more: each has a second byte and a third then, and nothing else is asked of it.
 fn surplus_of_block(text: &[u8], from: usize, most: u8) -> usize
     requires { ⌜ (from + 130 ≤ length (now text)) × ((k : ℕ) → from ≤ k → k < from + 128 → getD (now text) k 0 ≤ most) ⌝ }
     ensures { λ r. ⌜ r ≡ between (surplusAt (now (text .entry))) from (from + 128) ⌝ }
@@ -178,14 +178,15 @@ fn surplus_of_block(text: &[u8], from: usize, most: u8) -> usize
     if most < 0xE0 {
         return count(text, from, Mark::Two) as usize;
     }
+    let leads = count(text, from, Mark::Lead);
     if most < 0xF0 {
-        if count(text, from, Mark::OddThree) == 0 {
-            return 2 * count(text, from, Mark::Lead) as usize;
+        if count(text, from, Mark::Three) == leads {
+            return 2 * leads as usize;
         }
         return surplus_of_any(text, from, false) as usize;
     }
-    if count(text, from, Mark::OddFour) == 0 {
-        return 2 * count(text, from, Mark::Lead) as usize;
+    if count(text, from, Mark::Four) == leads {
+        return 2 * leads as usize;
     }
     surplus_of_any(text, from, true) as usize
 }

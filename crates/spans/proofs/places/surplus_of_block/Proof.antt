@@ -25,14 +25,16 @@ returns-3 : tie.Need-returns-3
 returns-3 c =
     let t = c .before .before .before .before .before .before .before in
     let x = t .args in
-    ap (λ (n : ℕ). 2 * n) (c .count3 .ensures)
-    ∙ sym (block-three (now (x .text)) (x .from) (x .from + 128) (omega arith) (λ k l u. omega (arith, t .pre .1 k l u)) (omega (arith, c .before .before .count2 .ensures)))
+    let leads = c .before .before .before .count2 .ensures in
+    ap (λ (n : ℕ). 2 * n) leads
+    ∙ sym (block-three (now (x .text)) (x .from) (x .from + 128) (omega arith) (λ k l u. omega (arith, t .pre .1 k l u)) (sym (c .before .count3 .ensures) ∙ c .if4 .taken ∙ leads))
 
 returns-5 : tie.Need-returns-5
 returns-5 c =
     let x = c .before .before .before .before .before .before .before .args in
-    ap (λ (n : ℕ). 2 * n) (c .count5 .ensures)
-    ∙ sym (block-four (now (x .text)) (x .from) (x .from + 128) (omega arith) (omega (arith, c .before .before .count4 .ensures)))
+    let leads = c .before .before .before .count2 .ensures in
+    ap (λ (n : ℕ). 2 * n) leads
+    ∙ sym (block-four (now (x .text)) (x .from) (x .from + 128) (omega arith) (sym (c .before .count4 .ensures) ∙ c .if5 .taken ∙ leads))
 
 pub surplus-of-block-spec : {M : Type 1} → statement M
 surplus-of-block-spec =
@@ -47,10 +49,9 @@ surplus-of-block-spec =
     (λ c. search needs)
     (λ c. search needs)
     returns-3
-    (λ c κs. let t = c .before .before .before .before .before .before in (omega arith, λ e k l u. omega (arith, t .pre .1 k l u)))
+    (λ c κs. let t = c .before .before .before .before .before .before .before in (omega arith, λ e k l u. omega (arith, t .pre .1 k l u)))
     (λ c. search needs)
     (λ c. search needs)
-    (λ c κs. search needs)
     (λ c κs. search needs)
     (λ c. search needs)
     (λ c. search needs)
