@@ -143,14 +143,8 @@ fn surplus_by(a: u8, b: u8, c: u8, four: bool) -> u8
     ensures { λ r. ⌜ r ≡ surplusBy a b c ⌝ }
 {
     let second = goes_on(a, b, four);
-    let mut n: u8 = 0;
-    if second {
-        n += 1;
-    }
-    if (second & (0xE0 <= a)) & is_tail(c) {
-        n += 1;
-    }
-    n
+    let third = (second & (0xE0 <= a)) & is_tail(c);
+    second as u8 + third as u8
 }
 
 // Over a block of any characters. No byte after a first adds to it, so that a byte holds it; the compiler knows `four` at each call.
