@@ -42,7 +42,7 @@ module _ (a : ℕ) where
         lt-leb a 0xEF (omega arith),
       )
 
-  four-below : (b c d : ℕ) → a < 0xF0 → utf8Four a b c d ≡ false
+  pub four-below : (b c d : ℕ) → a < 0xF0 → utf8Four a b c d ≡ false
   four-below b c d h = simp (ne-eqb a 0xF0 (λ e. omega arith), lt-leb 0xF1 a (omega arith), ne-eqb a 0xF4 (λ e. omega arith))
 
   pub four-above : (b c d : ℕ) → 0xF4 < a → utf8Four a b c d ≡ false

@@ -12,6 +12,8 @@ pub mod Reading
 pub mod Proper
 pub mod Validity
 pub mod LongestValid
+pub mod Broken
+pub mod Cuts
 -- What the proof of demand 3 asks of each rule.
 pub mod Masks
 pub mod Step
@@ -55,3 +57,4 @@ pub mod Cases
 pub mod Plans
 pub mod Bench
 pub mod PlaceCases
+pub mod UnitCases

@@ -6,4 +6,4 @@ use Rattle.rules.specs.PlaceCases.{AllLie, placeCases}
 
 pub worked : AllLie placeCases
 unfolding formed begun codeOf charOf charsAfter before lineEnds lastLine unitsOf placeOf
-worked = (refl, (refl, (refl, (refl, (refl, (refl, (refl, (refl, (refl, (refl, (refl, (refl, (refl, (refl, (refl, (refl, (refl, (refl, (refl, (refl, tt))))))))))))))))))))
+worked = (refl, (refl, (refl, (refl, (refl, (refl, (refl, (refl, (refl, (refl, (refl, (refl, (refl, (refl, (refl, (refl, (refl, (refl, (refl, (refl, (refl, (refl, (refl, tt)))))))))))))))))))))))

@@ -21,3 +21,4 @@ pub mod Records
 pub mod Cases
 pub mod Bench
 pub mod PlaceCases
+pub mod UnitCases

@@ -1,4 +1,4 @@
--- The worked cases of document 02's #103, in one table: offset, line and column, of each of some texts.
+-- The worked cases of document 02's #103, and of #105 for places, in one table: offset, line and column, of each of some texts.
 use Prim.Native.Nat.{ℕ}
 use mathlib.Core.Path.{_≡_}
 use mathlib.Core.List.{List, [], _∷_}
@@ -41,6 +41,10 @@ astral = 0x61 ∷ 0xF0 ∷ 0x90 ∷ 0x90 ∷ 0x80 ∷ 0x62 ∷ []
 abbrev broken : List ℕ
 broken = 0x80 ∷ 0x80 ∷ []
 
+-- A cut character and a letter
+abbrev cut : List ℕ
+cut = 0xE2 ∷ 0x80 ∷ 0x61 ∷ []
+
 abbrev pub placeCases : List PlaceCase
 placeCases =
     case twoLines 0 0 0
@@ -64,4 +68,8 @@ placeCases =
     ∷ case broken 2 0 2
     -- A CR that ends the text
     ∷ case (carriageReturn ∷ []) 1 1 0
+    -- #105: "the unit is one character of one column"
+    ∷ case cut 1 0 0
+    ∷ case cut 2 0 1
+    ∷ case cut 3 0 2
     ∷ []

@@ -13,7 +13,8 @@ pub record Place : Type 0 where
   pub line : ℕ
   pub column : ℕ
 
--- "columns are UTF-16 code units (two for a character above U+FFFF, otherwise one)"; "A byte that begins no character counts as one unit."
+-- "columns are UTF-16 code units (two for a character above U+FFFF, otherwise one)"; "A byte that begins no character counts as one unit.", and
+-- so does what #105 reads as one character there.
 abbrev pub units : Char → ℕ
 units c = cond (within 0x10000 0x10FFFF (c .code)) 2 1
 
