@@ -139,8 +139,10 @@ uint64_t giehtamun_list_up_to(const uint8_t *text, size_t text_len, uint32_t mod
 
 /* The one token that starts at a cursor: its kind, and as the value its end, which is the next cursor. At the text's end it is
    EndOfStream, and the value is the text's length.
-   The whole text is not tested for UTF-8. A byte that begins no well-formed character is read as one character of one byte and of no
-   class, so that a cursor inside a character is answered too.
+   The whole text is not tested for UTF-8. Where no well-formed character begins, the longest run of bytes there that begins some
+   well-formed character, or one byte if there is none, is read as one character of no class: the Unicode Standard's practice of replacing
+   maximal subparts (section 3.9). So a cut character is one ErrorToken outside of literals and comments, where an editor shows one
+   replacement mark, and a cursor inside a character is answered too.
    A step holds no state: from each dollar sign it may search the rest of the text, which a listing of the whole text does not.
    Answers 0, or refuses with 1 or 4, kind 0 and value 0. */
 uint64_t giehtamun_step(const uint8_t *text, size_t text_len, size_t cursor);
@@ -171,7 +173,8 @@ uint64_t giehtamun_shown_text(const uint8_t *text, size_t text_len, const uint8_
    offset: two for a character above U+FFFF, otherwise one.
    An offset inside a character has the place of that character. One between CR and LF belongs to the line they end, after the CR; the
    protocol takes such a position as the line's end.
-   The text may be any bytes and is not tested for UTF-8: a byte that begins no well-formed character counts as one unit.
+   The text may be any bytes and is not tested for UTF-8: what giehtamun_step reads as one character where no well-formed one begins is one
+   character of one unit here too, as an editor's one replacement mark is.
    Answers 0, or refuses with 1 or 4, line 0 and column 0. */
 uint64_t giehtamun_place(const uint8_t *text, size_t text_len, size_t offset);
 

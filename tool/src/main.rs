@@ -4,7 +4,7 @@ mod page;
 mod show;
 mod unseen;
 
-use giehtamun::{MAX_QUERY_SIZE, Place, Refusal, Token, place};
+use giehtamun::{MAX_QUERY_SIZE, Place, Refusal, Token, place, step};
 use std::ffi::{OsStr, OsString};
 use std::fs::File;
 use std::io::{self, ErrorKind, Read, Write, stdin, stdout};
@@ -58,12 +58,19 @@ fn printed(command: Command, name: &str, text: &[u8]) -> Result<Vec<u8>, Refusal
     })
 }
 
-/// Why a text is refused, with a place as `list` counts it.
+/// Bytes as they are written in documents, as `E2 80`.
+fn hex(bytes: &[u8]) -> String {
+    bytes.iter().map(|byte| format!("{byte:02X}")).collect::<Vec<_>>().join(" ")
+}
+
+/// Why a text is refused, with a place as `list` counts it; of what is not UTF-8 the bytes that an editor shows as one replacement mark.
 fn reason(refusal: Refusal, text: &[u8]) -> String {
     match refusal {
         Refusal::NotUtf8 { valid } => {
             let Place { line, column } = place(text, valid).expect("a place in a text that is not too long");
-            format!("not UTF-8 at byte {valid}, line {}, column {} in UTF-16 units", line + 1, column + 1)
+            // Where no character begins, the token is the broken one, whatever stands before it.
+            let broken = step(text, valid).expect("a cursor in a text that is not too long");
+            format!("not UTF-8 at byte {valid} ({}), line {}, column {} in UTF-16 units", hex(&text[broken.range()]), line + 1, column + 1)
         }
         other => other.to_string(),
     }

@@ -157,10 +157,10 @@ fn the_size_limit() {
 #[test]
 fn refusals() {
     for words in [&["list", "-"][..], &["mask", "-"], &["show", "-"], &["show", "--html", "-"]] {
-        refuses(words, b"a\n\xD7\xA9 b\xC0\x80", "standard input: not UTF-8 at byte 6, line 2, column 4 in UTF-16 units", 1);
+        refuses(words, b"a\n\xD7\xA9 b\xC0\x80", "standard input: not UTF-8 at byte 6 (C0), line 2, column 4 in UTF-16 units", 1);
     }
-    refuses(&["list", "-"], b"a\r\xF0\x90\x90\x80\r\n\xF0\x90", "standard input: not UTF-8 at byte 8, line 3, column 1 in UTF-16 units", 1);
-    refuses(&["list", "-"], b"\xF0\x90\x90\x80\x80", "standard input: not UTF-8 at byte 4, line 1, column 3 in UTF-16 units", 1);
+    refuses(&["list", "-"], b"a\r\xF0\x90\x90\x80\r\n\xF0\x90", "standard input: not UTF-8 at byte 8 (F0 90), line 3, column 1 in UTF-16 units", 1);
+    refuses(&["list", "-"], b"\xF0\x90\x90\x80\x80", "standard input: not UTF-8 at byte 4 (80), line 1, column 3 in UTF-16 units", 1);
     refuses(&["list", "no/such"], b"", "no/such: No such file or directory (os error 2)", 1);
     refuses(&["list", "no\nsuch"], b"", "no\\nsuch: No such file or directory (os error 2)", 1);
     refuses(&["mask", env!("CARGO_MANIFEST_DIR")], b"", concat!(env!("CARGO_MANIFEST_DIR"), ": Is a directory (os error 21)"), 1);

@@ -238,7 +238,9 @@ impl FusedIterator for Packed<'_> {}
 
 /// The one token that starts at a cursor; at the text's end it is [`Kind::EndOfStream`]. The next cursor is the token's end.
 ///
-/// The text is not tested for UTF-8: a byte that begins no character is one of no class, so that a cursor inside a character is answered too.
+/// The text is not tested for UTF-8. Where no well-formed character begins, the longest run of bytes there that begins some well-formed character,
+/// or one byte if there is none, is read as one character of no class, as [`slice::utf8_chunks`] and [`String::from_utf8_lossy`] cut it too: a cut
+/// character is one [`Kind::ErrorToken`] outside of literals and comments. A cursor inside a character is so answered too.
 ///
 /// ```
 /// use giehtamun::{Kind, Refusal, step};
@@ -246,6 +248,10 @@ impl FusedIterator for Packed<'_> {}
 /// assert_eq!((token.kind, token.end), (Kind::LessOrEquals, 3));
 /// assert_eq!(step(b"x<=1", 4)?.kind, Kind::EndOfStream);
 /// assert_eq!(step(b"x<=1", 5), Err(Refusal::Beyond));
+/// // A quote that is cut, which an editor shows as one replacement mark.
+/// let cut = step(b"x \xE2\x80 y", 2)?;
+/// assert_eq!((cut.kind, cut.range()), (Kind::ErrorToken, 2..4));
+/// assert_eq!(String::from_utf8_lossy(b"x \xE2\x80 y"), "x \u{FFFD} y");
 /// # Ok::<(), Refusal>(())
 /// ```
 pub fn step(text: &[u8], cursor: usize) -> Result<Token, Refusal> {
@@ -355,13 +361,15 @@ pub fn shown_text<'a>(text: &'a [u8], copy: &'a [u8], token: Token) -> Result<&'
 /// ```
 ///
 /// An offset inside a character has the place of that character. One between CR and LF belongs to the line they end, after the CR; the protocol
-/// takes such a position as the line's end. The text is not tested for UTF-8: a byte that begins no character counts as one unit.
+/// takes such a position as the line's end. The text is not tested for UTF-8: what [`step`] reads as one character where no well-formed one begins is
+/// one character of one unit here too.
 ///
 /// ```
 /// use giehtamun::{Place, place};
 /// assert_eq!(place("a𐐀b".as_bytes(), 3)?, Place { line: 0, column: 1 });
 /// assert_eq!(place(b"a\r\nb", 2)?, Place { line: 0, column: 2 });
 /// assert_eq!(place(b"\x80\x80", 2)?, Place { line: 0, column: 2 });
+/// assert_eq!(place(b"\xE2\x80b", 2)?, Place { line: 0, column: 1 });
 /// # Ok::<(), giehtamun::Refusal>(())
 /// ```
 pub fn place(text: &[u8], offset: usize) -> Result<Place, Refusal> {

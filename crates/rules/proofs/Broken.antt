@@ -219,11 +219,10 @@ can-begin a l h = go (decLt a 0xE0) (decLt a 0xF0) (eqb a 0xE0) refl (eqb a 0xED
         (0x80 ∷ 0x80 ∷ [], omega (arith, three-makes a 0x80 0x80 0 (three-other a 0x80 0x80 (omega (arith, eqb-false a 0xE0 ep)) y (eqb-false a 0xED eq))))
     go (no x) (no y) p ep q eq true er s es = (0x90 ∷ 0x80 ∷ 0x80 ∷ [], omega (arith, four-makes a 0x90 0x80 0x80 (four-first a 0x90 0x80 0x80 (eqb-true a 0xF0 er))))
     go (no x) (no y) p ep q eq false er true es = (0x80 ∷ 0x80 ∷ 0x80 ∷ [], omega (arith, four-makes a 0x80 0x80 0x80 (four-last a 0x80 0x80 0x80 (eqb-true a 0xF4 es))))
-    go (no x) (no y) p ep q eq false er false es =
-        (
-          0x80 ∷ 0x80 ∷ 0x80 ∷ [],
-          omega (arith, four-makes a 0x80 0x80 0x80 (four-other a 0x80 0x80 0x80 (omega (arith, eqb-false a 0xF0 er)) (omega (arith, eqb-false a 0xF4 es)))),
-        )
+    go (no x) (no y) p ep q eq false er false es = (
+      0x80 ∷ 0x80 ∷ 0x80 ∷ [],
+      omega (arith, four-makes a 0x80 0x80 0x80 (four-other a 0x80 0x80 0x80 (omega (arith, eqb-false a 0xF0 er)) (omega (arith, eqb-false a 0xF4 es)))),
+    )
 
 pub cannot-begin : (a : ℕ) (u : List ℕ) → 0x80 ≤ a → (a < 0xC2) ⊎ (0xF4 < a) → Begins (a ∷ u) → ⊥
 cannot-begin a u l o (r, k) = go o

@@ -44,12 +44,12 @@ formed a b c d = cond (utf8One a) 1 (cond (utf8Two a b) 2 (cond (utf8Three a b c
 abbrev pub wellFormed : List ℕ → ℕ
 wellFormed s = formed (getD s 0 0) (getD s 1 0) (getD s 2 0) (getD s 3 0)
 
--- Document 02, #105: a run of bytes "begins some well-formed character" where bytes can follow with which it does, and it has all of the run.
+-- Document 02, #105: a run of bytes "begins some well-formed character" where bytes can follow it so that a character has all of the run at its front.
 abbrev pub Begins : List ℕ → Type 0
 Begins run = (rest : List ℕ) × (length run ≤ wellFormed (run ++ rest))
 
--- "the longest run of bytes there that begins some well-formed character, or one byte if there is none", where none is whole: three bytes, if one
--- tail more makes a character of them, or two, if one or two do. Any tail does if one does, so 80 is asked. `longest-run` proves that this is it.
+-- "the longest run of bytes there that begins some well-formed character, or one byte if there is none", where no character begins: three bytes where
+-- a tail makes one of them, else two where one tail or two do. Any tail does where one does, so 80 stands for it. `longest-run` proves that it is that run.
 unfoldable pub begun : ℕ → ℕ → ℕ → ℕ
 begun a b c = cond (utf8Four a b c 0x80) 3 (cond (utf8Three a b 0x80 || utf8Four a b 0x80 0x80) 2 1)
 

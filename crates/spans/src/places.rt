@@ -29,13 +29,13 @@ pub struct Placed {
 pub enum Mark {
     // A line end, at the byte that it ends with.
     End,
-    // A byte that begins two bytes or more, or is in no character.
+    // A byte from C2 on, which begins two bytes or more, or nothing.
     Lead,
     // A character of two bytes.
     Two,
-    // A lead from E1 on, but for ED, with two tails: three bytes, where none is above EF.
+    // A byte from E1 on, but for ED, with two tails after it: three bytes, where none is above EF.
     Three,
-    // F0 with a second byte and a third.
+    // F0 with a second byte and a third after it.
     Four,
 }
 
@@ -147,7 +147,7 @@ fn surplus_by(a: u8, b: u8, c: u8, four: bool) -> u8
     second as u8 + third as u8
 }
 
-// Over a block of any characters. No byte after a first adds to it, so that a byte holds it; the compiler knows `four` at each call.
+// Over a block of any characters. After a byte that adds to it comes one that does not, so a byte holds it. The compiler knows `four` at each call.
 fn surplus_of_any(text: &[u8], from: usize, four: bool) -> u8
     requires { ⌜ (from + 130 ≤ length (now text)) × (four ≡ false → (k : ℕ) → from ≤ k → k < from + 128 → getD (now text) k 0 < 0xF0) ⌝ }
     ensures { λ r. ⌜ r ≡ between (surplusAt (now (text .entry))) from (from + 128) ⌝ }
@@ -161,7 +161,7 @@ fn surplus_of_any(text: &[u8], from: usize, four: bool) -> u8
     n
 }
 
-// The same in a shorter way, where no lead needs more: each has a second byte and a third then, and nothing else is asked of it.
+// The same in a shorter way, where each byte that begins more has two after it that need no other test: then such bytes are counted.
 fn surplus_of_block(text: &[u8], from: usize, most: u8) -> usize
     requires { ⌜ (from + 130 ≤ length (now text)) × ((k : ℕ) → from ≤ k → k < from + 128 → getD (now text) k 0 ≤ most) ⌝ }
     ensures { λ r. ⌜ r ≡ between (surplusAt (now (text .entry))) from (from + 128) ⌝ }

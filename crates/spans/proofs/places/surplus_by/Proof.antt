@@ -1,13 +1,12 @@
 -- `spans::places::surplus_by` meets its contract: one where the second byte passes, and one where the third does. Assumes nothing.
-use Prim.Native.Nat.{_+_}
 use native.Mathlib.Omega.{arith}
-use mathlib.Core.Path.{_≡_, refl, ap, _∙_}
+use mathlib.Core.Path.{_≡_, refl}
 use mathlib.Core.Bool.{Bool, true, false, _&&_}
 use lib.Dec.{leb}
 use mir.Val.{boolByte}
 use borrow.Author.Needs.{needs}
 use Rattle.rules.specs.Utf8.{utf8Tail}
-use Rattle.spans.specs.Sums.{bit, goesOn, surplusBy}
+use Rattle.spans.specs.Sums.{bit, goesOn}
 use Rattle.spans.proofs.Surplus.{bit-most}
 use Rattle.spans.proofs.places.surplus_by.Statement.{statement}
 use Rattle.spans.proofs.places.surplus_by.Tie as tie
@@ -16,18 +15,16 @@ byte-bit : (t : Bool) → boolByte t ≡ bit t
 byte-bit true = refl
 byte-bit false = refl
 
-sum : (c : tie.After-is-tail)
-    → let x = c .before .before .args in
-    boolByte (c .before .goes-on .result) + boolByte ((c .before .goes-on .result && leb 0xE0 (x .a)) && c .is-tail .result) ≡ surplusBy (x .a) (x .b) (x .c)
-sum c =
+returns : tie.Need-returns
+returns c =
     let x = c .before .before .args in
     rw (c .before .goes-on .ensures, c .is-tail .ensures)
     (omega (arith, byte-bit (goesOn (x .a) (x .b)), byte-bit ((goesOn (x .a) (x .b) && leb 0xE0 (x .a)) && utf8Tail (x .c))))
 
-fits : tie.Need-add-result
-fits c =
+add-result : tie.Need-add-result
+add-result c =
     let x = c .before .before .args in
-    omega (arith, sum c, bit-most (goesOn (x .a) (x .b)), bit-most ((goesOn (x .a) (x .b) && leb 0xE0 (x .a)) && utf8Tail (x .c)))
+    omega (arith, returns c, bit-most (goesOn (x .a) (x .b)), bit-most ((goesOn (x .a) (x .b) && leb 0xE0 (x .a)) && utf8Tail (x .c)))
 
 pub surplus-by-spec : {M : Type 1} → statement M
-surplus-by-spec = tie.close (tie.spec (λ c κs. search needs) (λ c κs. search needs) (λ c. tt) (λ c. tt) fits sum)
+surplus-by-spec = tie.close (tie.spec (λ c κs. search needs) (λ c κs. search needs) (λ c. tt) (λ c. tt) add-result returns)
