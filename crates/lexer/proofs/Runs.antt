@@ -1,6 +1,6 @@
 -- Runs of a class at an index: where they end, and what one turn of a loop over one keeps.
 -- Assumes nothing.
-use Prim.Native.Nat.{ℕ, _+_, _-_, _≤_, _<_}
+use Prim.Native.Nat.{ℕ, _+_, _-_, _*_, _%_, _≤_, _<_}
 use native.Mathlib.Omega.{arith}
 use mathlib.Core.Path.{_≡_, refl, sym, ap, _∙_}
 use mathlib.Core.List.{List, [], _∷_}
@@ -8,18 +8,18 @@ use mathlib.Core.Bool.{Bool, true, false, not, _&&_}
 use lib.ListN.{length, getD, drop}
 use lib.Dec.{ltb}
 use borrow.Author.Tests.{ne-eqb, ltb-true, lt-ltb}
-use Rattle.rules.specs.Utf8.{Char, noCode, charAt, charsAfter, chars}
+use Rattle.rules.specs.Utf8.{utf8Tail, wellFormed, codeOf, Char, noCode, charAt, charsAfter, chars}
 use Rattle.rules.specs.Characters.{lineFeed}
 use Rattle.rules.specs.Lexeme.{first, run}
 use Rattle.rules.specs.Spaces.{notLineFeed}
 use Rattle.rules.proofs.Tests.{and-both, clash}
-use Rattle.rules.proofs.Decoding.{chars-at, chars-ascii, chars-end}
+use Rattle.rules.proofs.Decoding.{at-index, formed-two, code-two, some-left, chars-at, chars-ascii, chars-end}
 use Rattle.rules.proofs.Bytes.{byte-step, next-is}
 use Rattle.rules.proofs.Runs.{run-cons}
 use Rattle.utf8.specs.declared.Unit.{Unit}
 use Rattle.utf8.specs.declared.Unit.the-variants as unit
 use Rattle.utf8.specs.Units.{unitAt}
-use Rattle.utf8.proofs.Units.{Here, char-unit, broken-unit, end-unit, here-at}
+use Rattle.utf8.proofs.Units.{unit-char, Here, char-unit, broken-unit, end-unit, here-at}
 use Rattle.utf8.specs.Units.{unitCode, unitLen}
 use Rattle.lexer.specs.Steps.{Step}
 use Rattle.runs.specs.Classes.{Skips}
@@ -84,6 +84,12 @@ module _ (p : ℕ → Bool) (s : List ℕ) (j : ℕ) where
           goes = λ x. absurd (x refl);
           stops = λ x. ap (run p) (a .0) ∙ run-other p (charAt (drop j s)) (chars (drop (j + n) s)) (ap p (w .code) ∙ e);
         }
+
+  -- a character of two bytes, by these
+  pub step-two : j < length s → 0xC2 ≤ getD s j 0 → getD s j 0 < 0xE0 → utf8Tail (getD s (j + 1) 0) ≡ true → p (getD s j 0 % 32 * 64 + getD s (j + 1) 0 % 64) ≡ true → Step p s j 2
+  step-two h l u t e =
+      let f : wellFormed (drop j s) ≡ 2 = at-index s j ∙ formed-two (getD s j 0) (getD s (j + 1) 0) (getD s (j + 2) 0) (getD s (j + 3) 0) l u ∙ rw t in
+      step-on (codeOf 2 (drop j s)) 2 (char-unit (drop j s) _ 2 (unit-char (drop j s) 2 (some-left s j h) (sym f) (λ z. omega arith))) (ap p (code-two s j 2 refl) ∙ e)
 
   step-end : unitAt (drop j s) ≡ unit.End → Step p s j 0
   step-end u = record { goes = λ x. absurd (x refl); stops = λ x. ap (λ (t : List ℕ). run p (chars t)) (end-unit (drop j s) u) ∙ run-nil p }

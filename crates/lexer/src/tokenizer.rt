@@ -28,6 +28,7 @@ use crate::token::join;
 use classes::tables::ClassTable;
 use runs::skip_pairs;
 use utf8::byte_at;
+use utf8::is_tail;
 use utf8::unit_at;
 use utf8::unit_code;
 use utf8::unit_len;
@@ -753,16 +754,19 @@ fn is_common_letter(c: u32) -> bool
         | (0x66E <= c) & (c < 0x6D4)
 }
 
-// The bytes of such a letter at `at`, or 0 where there is none.
+// The bytes of such a letter at `at`, which are two, or 0 where there is none.
 fn common_len(text: &[u8], at: usize) -> usize
+    requires { ⌜ at < length (now text) ⌝ }
     ensures { λ r. ⌜ ((r ≡ 0 → ⊥) → (d : Bool) → Step (wordWith d) (now (text .entry)) at r) ⌝ }
 {
-    let u = unit_at(text, at);
-    if is_common_letter(unit_code(u)) {
-        unit_len(u)
-    } else {
-        0
+    let a = byte_at(text, at);
+    let b = byte_at(text, at + 1);
+    if ((0xC2 <= a) & (a <= 0xDF)) & is_tail(b) {
+        if is_common_letter(a as u32 % 32 * 64 + b as u32 % 64) {
+            return 2;
+        }
     }
+    0
 }
 
 // A word from its first character on that needs the table, which is made once, for all that is left.

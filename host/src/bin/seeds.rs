@@ -24,7 +24,12 @@ fn main() {
             _ => texts::random(&mut r),
         };
         text.truncate(text.floor_char_boundary(most));
-        let text = if i % 4 == 1 { texts::damaged(&mut r, &text) } else { text.into_bytes() };
+        let mut text = match i % 8 {
+            1 => texts::damaged(&mut r, &text),
+            5 => texts::cut(&mut r, text.as_bytes()),
+            _ => text.into_bytes(),
+        };
+        text.truncate(most);
         std::fs::write(format!("{folder}/{i}"), text).expect("a folder to write into");
     }
 }
