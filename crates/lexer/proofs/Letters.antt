@@ -29,7 +29,7 @@ module _ (c : ℕ) (h : 0xA0 < c) where
   is-none (inl a) k l m e = omega arith
   is-none (inr a) k l m e = omega arith
 
-  no-space : Apart c → whiteSpace c ≡ false
+  pub no-space : Apart c → whiteSpace c ≡ false
   no-space a =
       let n : (k : ℕ) → 0x1680 ≤ k → k ≤ 0x3000 → eqb c k ≡ false = λ k l m. ne-eqb c k (is-none a k l m) in
       later-space c (omega arith)

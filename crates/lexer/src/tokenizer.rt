@@ -154,6 +154,13 @@ fn read_non_ascii(text: &[u8], start: usize) -> Lexed
     let u = unit_at(text, start);
     let c = unit_code(u);
     let after = start + unit_len(u);
+    // No rule names a character past U+3000, and none a broken one, whose code is past all.
+    if 0x3000 < c {
+        return Lexed {
+            kind: SyntaxKind::ErrorToken,
+            end: after,
+        };
+    }
     if classes::is_white_space(c) {
         return Lexed {
             kind: SyntaxKind::Whitespace,

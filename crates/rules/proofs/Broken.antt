@@ -62,25 +62,19 @@ chosen : (t : Bool) (n w : ℕ) → cond t n 0 ≡ w → 0 < w → t ≡ true
 chosen true n w e h = refl
 chosen false n w e h = absurd (omega arith)
 
-three-formed : (a b c d : ℕ) → formed a b c d ≡ 3 → utf8Three a b c ≡ true
-three-formed a b c d e = go (form a b c d) e
-  where
-    go : {w : ℕ} → Form a b c d w → w ≡ 3 → utf8Three a b c ≡ true
-    go none q = absurd (omega arith)
-    go (one x) q = absurd (omega arith)
-    go (two x y t) q = absurd (omega arith)
-    go (three x y t u) q = chosen (utf8Three a b c) 3 3 (sym (formed-three a b c d (omega arith) (omega arith)) ∙ e) (omega arith)
-    go (four x y t u v) q = absurd (omega arith)
+module _ (a b c d : ℕ) where
+  first-of : {w : ℕ} → Form a b c d w → (w ≡ 3 → (0xE0 ≤ a) × (a < 0xF0)) × (w ≡ 4 → 0xF0 ≤ a)
+  first-of none = (λ q. absurd (omega arith), λ q. absurd (omega arith))
+  first-of (one x) = (λ q. absurd (omega arith), λ q. absurd (omega arith))
+  first-of (two x y t) = (λ q. absurd (omega arith), λ q. absurd (omega arith))
+  first-of (three x y t u) = (λ q. (omega arith, omega arith), λ q. absurd (omega arith))
+  first-of (four x y t u v) = (λ q. absurd (omega arith), λ q. omega arith)
 
-four-formed : (a b c d : ℕ) → formed a b c d ≡ 4 → utf8Four a b c d ≡ true
-four-formed a b c d e = go (form a b c d) e
-  where
-    go : {w : ℕ} → Form a b c d w → w ≡ 4 → utf8Four a b c d ≡ true
-    go none q = absurd (omega arith)
-    go (one x) q = absurd (omega arith)
-    go (two x y t) q = absurd (omega arith)
-    go (three x y t u) q = absurd (omega arith)
-    go (four x y t u v) q = chosen (utf8Four a b c d) 4 4 (sym (formed-four a b c d (omega arith)) ∙ e) (omega arith)
+  three-formed : formed a b c d ≡ 3 → utf8Three a b c ≡ true
+  three-formed e = let r = first-of (form a b c d) .0 e in chosen (utf8Three a b c) 3 3 (sym (formed-three a b c d (r .0) (r .1)) ∙ e) (omega arith)
+
+  four-formed : formed a b c d ≡ 4 → utf8Four a b c d ≡ true
+  four-formed e = chosen (utf8Four a b c d) 4 4 (sym (formed-four a b c d (first-of (form a b c d) .1 e)) ∙ e) (omega arith)
 
 -- What goes on to a character has at least that run.
 or-any : (x : Bool) → (x || true) ≡ true
@@ -191,20 +185,17 @@ module _ (t : List ℕ) (h : 0 < length t) where
   abbrev c : ℕ
   c = getD t 2 0
 
-  begins-two : brokenLength t ≡ 2 → Begins (a ∷ b ∷ []) → Begins (take (brokenLength t) t)
-  begins-two e r = subst Begins (sym (ap (λ (n : ℕ). take n t) e ∙ take-two t (omega (arith, broken-within t h)))) r
-
-  begins-three : brokenLength t ≡ 3 → Begins (a ∷ b ∷ c ∷ []) → Begins (take (brokenLength t) t)
-  begins-three e r = subst Begins (sym (ap (λ (n : ℕ). take n t) e ∙ take-three t (omega (arith, broken-within t h)))) r
+  front : {n : ℕ} {u : List ℕ} → brokenLength t ≡ n → (n ≤ length t → take n t ≡ u) → Begins u → Begins (take (brokenLength t) t)
+  front e f r = subst Begins (sym (ap (λ (n : ℕ). take n t) e ∙ f (omega (arith, broken-within t h)))) r
 
   longer-begins : 1 < brokenLength t → Begins (take (brokenLength t) t)
   unfolding begun
   longer-begins p = go (utf8Four a b c 0x80) refl (utf8Three a b 0x80) refl (utf8Four a b 0x80 0x80) refl
     where
       go : (x : Bool) → utf8Four a b c 0x80 ≡ x → (y : Bool) → utf8Three a b 0x80 ≡ y → (z : Bool) → utf8Four a b 0x80 0x80 ≡ z → Begins (take (brokenLength t) t)
-      go true e y f z g = begins-three (rw e) (0x80 ∷ [], omega (arith, four-makes a b c 0x80 e))
-      go false e true f z g = begins-two (rw (e, f)) (0x80 ∷ [], omega (arith, three-makes a b 0x80 0 f))
-      go false e false f true g = begins-two (rw (e, f, g)) (0x80 ∷ 0x80 ∷ [], omega (arith, four-makes a b 0x80 0x80 g))
+      go true e y f z g = front (rw e) (take-three t) (0x80 ∷ [], omega (arith, four-makes a b c 0x80 e))
+      go false e true f z g = front (rw (e, f)) (take-two t) (0x80 ∷ [], omega (arith, three-makes a b 0x80 0 f))
+      go false e false f true g = front (rw (e, f, g)) (take-two t) (0x80 ∷ 0x80 ∷ [], omega (arith, four-makes a b 0x80 0x80 g))
       go false e false f false g = absurd (let n : brokenLength t ≡ 1 = rw (e, f, g) in omega arith)
 
 -- A byte that begins a character: ASCII, and C2 to F4.

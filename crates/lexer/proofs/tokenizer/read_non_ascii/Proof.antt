@@ -1,10 +1,11 @@
 -- By the code of the character, or of none. Assumes nothing.
-use Prim.Native.Nat.{ℕ, _+_}
+use Prim.Native.Nat.{ℕ, _+_, _<_}
 use native.Mathlib.Omega.{arith}
 use borrow.Author.Needs.{needs}
 use mathlib.Core.Path.{_≡_, sym, ap, _∙_}
 use mathlib.Core.List.{List}
 use mathlib.Core.Bool.{Bool}
+use mathlib.Core.Logic.{inr}
 use denote.Ref.{now}
 use lib.ListN.{drop}
 use Rattle.rules.specs.Utf8.{Char, width, charAt, chars}
@@ -21,6 +22,7 @@ use Rattle.utf8.specs.Units.{unitCode, unitLen}
 use Rattle.utf8.proofs.Units.{unit-first, unit-width}
 use Rattle.lexer.specs.Ends.{endsAt}
 use Rattle.lexer.proofs.Ends.{lexed-is, opened-by}
+use Rattle.lexer.proofs.Letters.{no-space}
 use Rattle.lexer.proofs.tokenizer.read_non_ascii.Statement.{statement}
 use Rattle.lexer.proofs.tokenizer.read_non_ascii.Tie as tie
 
@@ -55,14 +57,25 @@ module _ (c : tie.After-unit-len) where
 add-after : tie.Need-add-after
 add-after c = omega (arith, width-is c, fits-at (s c) (i c) (st c .pre .0) .1)
 
--- White_Space or not
-spaced : (c : tie.After-is-white-space) → whiteSpace (head (c .before) .code) ≡ c .is-white-space .result
-spaced c = ap whiteSpace (sym (code-is (c .before))) ∙ sym (c .is-white-space .ensures)
-
+-- past U+3000 no rule names a character
 returns : tie.Need-returns
 returns c =
-    let t = c .before .before .before in
-    lexed-is (i t) (wide-spaces (d t) (s t) (i t) (st t .pre .0) (st t .pre .1) (spaced (c .before .before) ∙ c .before .if1 .taken)) _ (c .read-whitespace .ensures)
+    let t = c .before in
+    let code = head t .code in
+    let past : 0x3000 < code = omega (arith, code-is t, c .if1 .taken) in
+    lexed-is (i t)
+    (wide-other (d t) (s t) (i t) (st t .pre .0) (st t .pre .1) (no-space code (omega arith) (inr past)) (λ e. omega arith) (λ e. omega arith)
+    ∙ ap (λ (k : ℕ). is k (width (head t))) (single-wide code (omega arith) (λ e. omega arith)))
+    _ (after-is t)
+
+-- White_Space or not
+spaced : (c : tie.After-is-white-space) → whiteSpace (head (c .before .before) .code) ≡ c .is-white-space .result
+spaced c = ap whiteSpace (sym (code-is (c .before .before))) ∙ sym (c .is-white-space .ensures)
+
+returns-2 : tie.Need-returns-2
+returns-2 c =
+    let t = c .before .before .before .before in
+    lexed-is (i t) (wide-spaces (d t) (s t) (i t) (st t .pre .0) (st t .pre .1) (spaced (c .before .before) ∙ c .before .if2 .taken)) _ (c .read-whitespace .ensures)
 
 -- a quoted body after the opening quote
 body : (t : tie.After-unit-len) (close kind error : ℕ)
@@ -71,34 +84,34 @@ body t close kind error =
     ap (λ (n : ℕ). endsAt (i t + n) (enclosed 0 (upTo close (chars (drop (i t + n) (s t)))) kind error)) (width-is t)
     ∙ opened-by (i t) (width (head t)) (upTo close (chars (drop (i t + width (head t)) (s t)))) kind error
 
-returns-2 : tie.Need-returns-2
-returns-2 c =
-    let t = c .before .before .before .before in
-    c .read-unicode-quoted .ensures ∙ body t quoteClose StringToken ErrorSingleQuoteIsNotClosed
-    ∙ ap (endsAt (i t)) (sym (wide-quote (d t) (s t) (i t) (st t .pre .0) (st t .pre .1) (sym (code-is t) ∙ c .before .if2 .taken)))
-
 returns-3 : tie.Need-returns-3
 returns-3 c =
     let t = c .before .before .before .before .before in
-    c .read-unicode-quoted2 .ensures ∙ body t doubleQuoteClose QuotedIdentifier ErrorDoubleQuoteIsNotClosed
-    ∙ ap (endsAt (i t)) (sym (wide-doubleQuote (d t) (s t) (i t) (st t .pre .0) (st t .pre .1) (sym (code-is t) ∙ c .before .if3 .taken)))
-
--- neither white space nor a quote
-alone : (c : tie.Else3) → let t = c .before .before .before .before in lexeme (d t) (drop (i t) (s t)) ≡ is (single (head t .code)) (width (head t))
-alone c =
-    let t = c .before .before .before .before in
-    wide-other (d t) (s t) (i t) (st t .pre .0) (st t .pre .1) (spaced (c .before .before .before) ∙ c .before .before .if1 .left) (λ e. c .before .if2 .left (code-is t ∙ e)) (λ e. c .if3 .left (code-is t ∙ e))
+    c .read-unicode-quoted .ensures ∙ body t quoteClose StringToken ErrorSingleQuoteIsNotClosed
+    ∙ ap (endsAt (i t)) (sym (wide-quote (d t) (s t) (i t) (st t .pre .0) (st t .pre .1) (sym (code-is t) ∙ c .before .if3 .taken)))
 
 returns-4 : tie.Need-returns-4
-unfolding single
 returns-4 c =
+    let t = c .before .before .before .before .before .before in
+    c .read-unicode-quoted2 .ensures ∙ body t doubleQuoteClose QuotedIdentifier ErrorDoubleQuoteIsNotClosed
+    ∙ ap (endsAt (i t)) (sym (wide-doubleQuote (d t) (s t) (i t) (st t .pre .0) (st t .pre .1) (sym (code-is t) ∙ c .before .if4 .taken)))
+
+-- neither white space nor a quote
+alone : (c : tie.Else4) → let t = c .before .before .before .before .before in lexeme (d t) (drop (i t) (s t)) ≡ is (single (head t .code)) (width (head t))
+alone c =
     let t = c .before .before .before .before .before in
-    lexed-is (i t) (alone (c .before) ∙ ap (λ (k : ℕ). is (single k) (width (head t))) (sym (code-is t) ∙ c .if4 .taken)) _ (after-is t)
+    wide-other (d t) (s t) (i t) (st t .pre .0) (st t .pre .1) (spaced (c .before .before .before) ∙ c .before .before .if2 .left) (λ e. c .before .if3 .left (code-is t ∙ e)) (λ e. c .if4 .left (code-is t ∙ e))
 
 returns-5 : tie.Need-returns-5
+unfolding single
 returns-5 c =
-    let t = c .before .before .before .before .before in
-    lexed-is (i t) (alone (c .before) ∙ ap (λ (k : ℕ). is k (width (head t))) (single-wide (head t .code) (wide-code (d t) (s t) (i t) (st t .pre .0) (st t .pre .1)) (λ e. c .if4 .left (code-is t ∙ e)))) _ (after-is t)
+    let t = c .before .before .before .before .before .before in
+    lexed-is (i t) (alone (c .before) ∙ ap (λ (k : ℕ). is (single k) (width (head t))) (sym (code-is t) ∙ c .if5 .taken)) _ (after-is t)
+
+returns-6 : tie.Need-returns-6
+returns-6 c =
+    let t = c .before .before .before .before .before .before in
+    lexed-is (i t) (alone (c .before) ∙ ap (λ (k : ℕ). is k (width (head t))) (single-wide (head t .code) (wide-code (d t) (s t) (i t) (st t .pre .0) (st t .pre .1)) (λ e. c .if5 .left (code-is t ∙ e)))) _ (after-is t)
 
 pub read-non-ascii-spec : {M : Type 1} → statement M
 read-non-ascii-spec =
@@ -108,12 +121,13 @@ read-non-ascii-spec =
     (λ c κs. search needs)
     (λ c κs. search needs)
     add-after
-    (λ c κs. search needs)
-    (λ c κs. search needs)
     returns
+    (λ c κs. search needs)
     (λ c κs. search needs)
     returns-2
     (λ c κs. search needs)
     returns-3
+    (λ c κs. search needs)
     returns-4
-    returns-5)
+    returns-5
+    returns-6)
