@@ -63,6 +63,20 @@ static int parts(void) {
     return 0;
 }
 
+/* A cut character is one token and one column, and a byte that begins no character is one. */
+static int broken(void) {
+    static const uint8_t text[] = {0xE2, 0x80, 'a', 0xE0, 0x80};
+    if (!is(giehtamun_step(text, sizeof text, 0), GIEHTAMUN_DONE, GIEHTAMUN_ERROR_TOKEN, 2))
+        return 22;
+    if (!is(giehtamun_step(text, sizeof text, 3), GIEHTAMUN_DONE, GIEHTAMUN_ERROR_TOKEN, 4))
+        return 23;
+    if (!is_place(giehtamun_place(text, sizeof text, 1), GIEHTAMUN_DONE, 0, 0))
+        return 24;
+    if (!is_place(giehtamun_place(text, sizeof text, 5), GIEHTAMUN_DONE, 0, 4))
+        return 25;
+    return 0;
+}
+
 /* The hiding kinds are 2, 5, 7 and 40 to 43. */
 static int hiding_kinds(void) {
     uint32_t kind;
@@ -78,5 +92,7 @@ int main(void) {
         wrong = parts();
     if (wrong == 0)
         wrong = hiding_kinds();
+    if (wrong == 0)
+        wrong = broken();
     return wrong;
 }

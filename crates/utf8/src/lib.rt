@@ -104,7 +104,7 @@ fn formed_at(s: &[u8], j: usize) -> usize
     }
 }
 
-// The length of the broken character at j, where no whole one begins. Of bytes that are tests of more to come, 80 stands for any tail.
+// The length of the broken character at j, where no whole one begins. 80 stands for the tail that would follow.
 fn begun_at(s: &[u8], j: usize) -> usize
     requires { ⌜ j < length (now s) ⌝ }
     ensures { λ r. ⌜ r ≡ brokenLength (drop j (now (s .entry))) ⌝ }
