@@ -204,8 +204,8 @@ pub fn damaged(r: &mut Random, text: &str) -> Vec<u8> {
 
 /// The first and the last character of each row of RFC 3629's table, and some between: the bytes that may go on after their first differ.
 #[rustfmt::skip]
-const TO_CUT: [char; 20] = [
-    '\u{80}', 'é', 'ש', '\u{7FF}', '\u{800}', '\u{FFF}', '\u{1000}', '‘', '一', '\u{D7FF}', '\u{E000}', '\u{FFFF}', '\u{10000}', '😀', '\u{3FFFF}',
+const TO_CUT: [char; 22] = [
+    '\u{80}', 'é', 'ש', '\u{7FF}', '\u{800}', '\u{FFF}', '\u{1000}', '‘', '一', '\u{CFFF}', '\u{D000}', '\u{D7FF}', '\u{E000}', '\u{FFFF}', '\u{10000}', '😀', '\u{3FFFF}',
     '\u{40000}', '\u{80000}', '\u{FFFFF}', '\u{100000}', '\u{10FFFF}',
 ];
 

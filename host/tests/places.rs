@@ -86,7 +86,7 @@ fn all_runs() -> impl Iterator<Item = &'static [u8]> {
 }
 
 /// What ends a line or looks like it, characters of each length, and broken ones: cut after each of their bytes, with a line's end beside them too, of
-/// surrogates, beyond the last, and too long for their code. Two last bytes make whole what is cut.
+/// surrogates, beyond the last, and too long for their code. The last, two tails, makes whole some of what is cut.
 #[rustfmt::skip]
 const BETWEEN: [&[u8]; 31] = [
     b"\r\n", b"\r", b"\n", b"\n\r", b"\r\r\n\n", b"\n\x0B", b"\r\x0C", b"\xE2\x80\xA8", b"\xC4\x8A", b"a", "ש".as_bytes(), "ა".as_bytes(),

@@ -240,7 +240,7 @@ impl FusedIterator for Packed<'_> {}
 ///
 /// The text is not tested for UTF-8. Where no well-formed character begins, the longest run of bytes there that begins some well-formed character,
 /// or one byte if there is none, is read as one character of no class, as [`slice::utf8_chunks`] and [`String::from_utf8_lossy`] cut it too: a cut
-/// character is one [`Kind::ErrorToken`] outside of literals and comments. A cursor inside a character is so answered too.
+/// character is one [`Kind::ErrorToken`] outside of literals and comments. So a cursor inside a character is answered too.
 ///
 /// ```
 /// use giehtamun::{Kind, Refusal, step};

@@ -154,7 +154,7 @@ fn read_non_ascii(text: &[u8], start: usize) -> Lexed
     let u = unit_at(text, start);
     let c = unit_code(u);
     let after = start + unit_len(u);
-    // No rule names a character past U+3000, and none a broken one, whose code is past all.
+    // Nothing but an ErrorToken starts with a character past U+3000, or with a broken one, whose code is past all.
     if 0x3000 < c {
         return Lexed {
             kind: SyntaxKind::ErrorToken,

@@ -1,6 +1,6 @@
 -- #105: a broken character is "the longest run of bytes there that begins some well-formed character, or one byte if there is none"; it has a code
 -- of its own, so that a text without one is valid; and it is one ErrorToken. Assumes nothing.
-use Prim.Native.Nat.{ℕ, zero, suc, _+_, _*_, _%_, _≤_, _<_}
+use Prim.Native.Nat.{ℕ, zero, suc, _+_, _%_, _≤_, _<_}
 use native.Mathlib.Omega.{arith}
 use native.Mathlib.Decide.{decLt}
 use mathlib.Core.Path.{_≡_, refl, sym, ap, _∙_, subst}
@@ -8,7 +8,7 @@ use mathlib.Core.List.{List, [], _∷_, _++_}
 use mathlib.Core.Bool.{Bool, true, false, cond, _&&_, _||_}
 use mathlib.Core.Logic.{_↔_, _⊎_, inl, inr}
 use lib.Dec.{eqb}
-use lib.ListN.{length, getD, take, drop, List·getD-append}
+use lib.ListN.{length, getD, take, List·getD-append}
 use lib.Seq.{length-take-le}
 use borrow.Author.Tests.{eqb-true, eqb-false}
 use Rattle.rules.specs.Utf8.{within, utf8Tail, utf8Three, utf8Four, formed, wellFormed, Begins, begun, brokenLength, codeOf, Char, width, noCode, charOf, charAt, chars, valid}
@@ -198,7 +198,7 @@ module _ (t : List ℕ) (h : 0 < length t) where
       go false e false f true g = front (rw (e, f, g)) (take-two t) (0x80 ∷ 0x80 ∷ [], omega (arith, four-makes a b 0x80 0x80 g))
       go false e false f false g = absurd (let n : brokenLength t ≡ 1 = rw (e, f, g) in omega arith)
 
--- A byte that begins a character: ASCII, and C2 to F4.
+-- A byte from C2 to F4 begins some character; no other past ASCII does.
 pub can-begin : (a : ℕ) → 0xC2 ≤ a → a ≤ 0xF4 → Begins (a ∷ [])
 can-begin a l h = go (decLt a 0xE0) (decLt a 0xF0) (eqb a 0xE0) refl (eqb a 0xED) refl (eqb a 0xF0) refl (eqb a 0xF4) refl
   where
@@ -238,7 +238,7 @@ pub record LongestRun (t : List ℕ) (n : ℕ) : Type 0 where
   pub begins : Begins (take n t) ⊎ ((n ≡ 1) × ((m : ℕ) → 0 < m → m ≤ length t → Begins (take m t) → ⊥))
   pub most : (m : ℕ) → m ≤ length t → Begins (take m t) → m ≤ n
 
-pub not-ascii : (t : List ℕ) → wellFormed t ≡ 0 → 0x80 ≤ getD t 0 0
+not-ascii : (t : List ℕ) → wellFormed t ≡ 0 → 0x80 ≤ getD t 0 0
 not-ascii t e = go (decLt (getD t 0 0) 0x80)
   where
     go : Dec (getD t 0 0 < 0x80) → 0x80 ≤ getD t 0 0
@@ -280,7 +280,7 @@ code-below t h = go (form-of t) h
     go (three a a2 b c) p = omega arith
     go (four a a2 b c d) p = let e : getD t 0 0 % 8 + 0xF0 ≡ getD t 0 0 = omega arith in let f = low-of b in omega arith
 
-pub code-broken : (t : List ℕ) → wellFormed t ≡ 0 → charAt t .code ≡ noCode
+code-broken : (t : List ℕ) → wellFormed t ≡ 0 → charAt t .code ≡ noCode
 unfolding charOf
 code-broken t e = ap (λ (w : ℕ). charOf w t .code) e
 

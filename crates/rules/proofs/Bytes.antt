@@ -15,7 +15,7 @@ use Rattle.rules.specs.Utf8.{Char, width, noCode, charAt, chars}
 use Rattle.rules.specs.Lexeme.{first}
 use Rattle.rules.proofs.Decoding.{Tail, chars-at, chars-ascii, chars-broken, chars-end, fits-at, inside-at, code-high}
 
--- F reads characters and adds up their bytes; it goes on over each character whose code is quiet, and the code of a broken byte is.
+-- F reads characters and adds up their bytes; it goes on over each character whose code is quiet, and the code of a broken character is.
 module _ {X : Type 0} (add : ℕ → X → X) (add-none : (x : X) → add 0 x ≡ x) (add-more : (m n : ℕ) (x : X) → add m (add n x) ≡ add (m + n) x)
     (F : List Char → X) (quiet : ℕ → Bool) (broken : quiet noCode ≡ true)
     (goes : (c : Char) (cs : List Char) → quiet (c .code) ≡ true → F (c ∷ cs) ≡ add (width c) (F cs)) (s : List ℕ) where

@@ -219,7 +219,7 @@ module _ (a b c : ℕ) where
       go : Form a b x 0x80 4 → (0xF090 ≤ a * 256 + b) × Tail b × Tail x
       go (four l h tb tc td) = (l, tb, tc)
 
-  pub begun-form : Begun a b c (begun a b c)
+  begun-form : Begun a b c (begun a b c)
   unfolding begun
   begun-form =
       let F = Begun a b c in
@@ -247,7 +247,7 @@ begun-tails one = (omega arith, omega arith, λ u. absurd (omega arith), λ u. a
 begun-tails (two l b) = (omega arith, omega arith, λ u. b, λ u. absurd (omega arith))
 begun-tails (three l b c) = (omega arith, omega arith, λ u. b, λ u. c)
 
-pub begun-of : (t : List ℕ) → Begun (getD t 0 0) (getD t 1 0) (getD t 2 0) (brokenLength t)
+begun-of : (t : List ℕ) → Begun (getD t 0 0) (getD t 1 0) (getD t 2 0) (brokenLength t)
 begun-of t = begun-form (getD t 0 0) (getD t 1 0) (getD t 2 0)
 
 -- A broken character has one byte to three.

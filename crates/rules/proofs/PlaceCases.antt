@@ -1,4 +1,4 @@
--- The worked cases of #103, computed. Assumes nothing.
+-- The worked cases of #103, and of #105 for places, computed. Assumes nothing.
 use mathlib.Core.Path.{refl}
 use Rattle.rules.specs.Utf8.{formed, begun, codeOf, charOf, charsAfter}
 use Rattle.rules.specs.Places.{before, lineEnds, lastLine, unitsOf, placeOf}

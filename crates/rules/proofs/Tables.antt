@@ -41,7 +41,7 @@ pub no-space : (whiteSpace 0x200B ≡ false) × (whiteSpace 0xFEFF ≡ false)
 unfolding whiteSpace inRanges whiteSpaceTable
 no-space = (refl, refl)
 
--- The code of a byte that begins no character is of no class.
+-- The code of a broken character is of no class.
 pub whiteSpace-none : whiteSpace noCode ≡ false
 unfolding whiteSpace inRanges whiteSpaceTable
 whiteSpace-none = refl

@@ -48,8 +48,8 @@ wellFormed s = formed (getD s 0 0) (getD s 1 0) (getD s 2 0) (getD s 3 0)
 abbrev pub Begins : List ℕ → Type 0
 Begins run = (rest : List ℕ) × (length run ≤ wellFormed (run ++ rest))
 
--- "the longest run of bytes there that begins some well-formed character, or one byte if there is none", where no character begins: three bytes where
--- a tail makes one of them, else two where one tail or two do. Any tail does where one does, so 80 stands for it. `longest-run` proves that it is that run.
+-- "the longest run of bytes there that begins some well-formed character, or one byte if there is none": three bytes where a tail makes a character
+-- of them, else two where one tail or two do, else one. 80 stands for any tail (`longest-run`).
 unfoldable pub begun : ℕ → ℕ → ℕ → ℕ
 begun a b c = cond (utf8Four a b c 0x80) 3 (cond (utf8Three a b 0x80 || utf8Four a b 0x80 0x80) 2 1)
 

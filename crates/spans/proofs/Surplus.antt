@@ -1,5 +1,5 @@
 -- What a character has more of bytes than of units, by its first bytes. Assumes nothing.
-use Prim.Native.Nat.{ℕ, zero, suc, _+_, _-_, _*_, _≤_, _<_}
+use Prim.Native.Nat.{ℕ, zero, suc, _+_, _-_, _≤_, _<_}
 use mathlib.Core.Path.{_≡_, refl, sym, ap, ap₂, _∙_}
 use mathlib.Core.List.{List}
 use mathlib.Core.Bool.{Bool, true, false, not, cond, _&&_, _||_, and-false}
@@ -10,7 +10,7 @@ use lib.ListN.{length, getD, drop}
 use borrow.Author.Tests.{le-leb, lt-leb, ne-eqb, eq-eqb, leb-true, leb-false, eqb-true, eqb-false, not-true}
 use Rattle.rules.specs.Utf8.{within, utf8Tail, utf8Two, utf8Three, utf8Four, formed, wellFormed, begun, width, charAt}
 use Rattle.rules.specs.Places.{units}
-use Rattle.rules.proofs.Tests.{clash, and-both}
+use Rattle.rules.proofs.Tests.{and-both}
 use Rattle.rules.proofs.Decoding.{three-first, three-surrogate, three-other, four-first, four-last, four-other, four-above, at-index, begun-index, begun-low, begun-middle, begun-high, formed-one, formed-low, formed-two, formed-three, formed-four, form-of, form-most, broken-range, width-broken, width-formed, some-left}
 use Rattle.rules.proofs.Places.{units-four, units-other}
 use Rattle.spans.specs.Sums.{bit, surplusAt, goesOn, surplusBy, marked, markAt}
@@ -72,7 +72,7 @@ module _ (a b : ℕ) where
   goes-last e = rw e (upto-high 0x8F b (omega arith))
 
   -- UTF8-3 and UTF8-4 by the second byte
-  pub three-goes : (c : ℕ) → 0xE0 ≤ a → a < 0xF0 → utf8Three a b c ≡ (goesOn a b && utf8Tail c)
+  three-goes : (c : ℕ) → 0xE0 ≤ a → a < 0xF0 → utf8Three a b c ≡ (goesOn a b && utf8Tail c)
   three-goes c l h = go (eqb a 0xE0) refl (eqb a 0xED) refl
     where
       go : (t : Bool) → eqb a 0xE0 ≡ t → (u : Bool) → eqb a 0xED ≡ u → utf8Three a b c ≡ (goesOn a b && utf8Tail c)
@@ -82,7 +82,7 @@ module _ (a b : ℕ) where
           three-other a b c (omega (arith, eqb-false a 0xE0 p)) h (eqb-false a 0xED q)
           ∙ ap (λ (x : Bool). x && utf8Tail c) (sym (goes-plain (omega arith) (omega arith) (eqb-false a 0xE0 p) (eqb-false a 0xED q) (λ e. omega arith)))
 
-  pub four-goes : (c d : ℕ) → 0xF0 ≤ a → utf8Four a b c d ≡ (goesOn a b && utf8Tail c && utf8Tail d)
+  four-goes : (c d : ℕ) → 0xF0 ≤ a → utf8Four a b c d ≡ (goesOn a b && utf8Tail c && utf8Tail d)
   four-goes c d l = go (decLt 0xF0 a) (decLt a 0xF4) (decLt 0xF4 a)
     where
       by : {x : Bool} → utf8Four a b c d ≡ (x && utf8Tail c && utf8Tail d) → goesOn a b ≡ x → utf8Four a b c d ≡ (goesOn a b && utf8Tail c && utf8Tail d)
