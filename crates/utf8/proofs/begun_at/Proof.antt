@@ -53,7 +53,7 @@ returns-3 c =
 returns-4 : tie.Need-returns-4
 returns-4 c =
     let x = c .before .before .before .before .before .before .before .args in
-    lone-at (now (x .s)) (x .j) (omega arith) (c .before .is-second .result) (c .before .before .before .byte-at .ensures) (c .before .is-second .ensures) (not-true _ (c .if4 .taken))
+    lone-at (now (x .s)) (x .j) (omega arith) (c .before .is-second .result) (c .before .before .before .byte-at .ensures) (c .before .is-second .ensures) (not-true (c .before .is-second .result) (c .if4 .taken))
 
 third : (c : tie.After-is-tail) (v : Bool) → c .is-tail .result ≡ v
     → let x = c .before .before .before .before .before .before .before .before .before .args in cond (v && true) 3 2 ≡ brokenLength (drop (x .j) (now (x .s)))
@@ -61,7 +61,7 @@ third c v q =
     let x = c .before .before .before .before .before .before .before .before .before .args in
     let t = c .before .before .before .is-second in
     third-at (now (x .s)) (x .j) (omega arith) (t .result) (c .before .before .before .before .before .byte-at .ensures) (t .ensures) v
-    (not-false _ (c .before .before .if4 .left)) (c .before .byte-at2 .ensures) (c .is-tail .ensures) q
+    (not-false (t .result) (c .before .before .if4 .left)) (c .before .byte-at2 .ensures) (c .is-tail .ensures) q
 
 returns-5 : tie.Need-returns-5
 returns-5 c = third (c .before) true (c .if5 .taken)
