@@ -18,7 +18,7 @@ const LENGTHS: [usize; 13] = [0, 1, 2, 3, 4, 6, 10, 20, 50, 100, 300, 1000, 4000
 type Text = (&'static str, fn(usize) -> String);
 
 #[rustfmt::skip]
-const TEXTS: [Text; 34] = [
+const TEXTS: [Text; 36] = [
     ("SQL", sql),
     ("`$a0$a1$a2$`, each tag another", |size| numbered(size, |k| format!("$a{k}"))),
     ("the shortest tags, each another", |size| numbered(size, |k| format!("${}", shortest(k)))),
@@ -50,6 +50,8 @@ const TEXTS: [Text; 34] = [
     ("`$aaa` without an end, again and again", |size| numbered(size, |k| format!("${}.", "a".repeat(k % 500)))),
     ("an ASCII and an Arabic letter, a space", |size| "aب ".repeat(size / 4)),
     ("a digit and an Arabic letter, a space", |size| "1ب ".repeat(size / 4)),
+    ("a digit and a Devanagari letter, a space", |size| "1क ".repeat(size / 5)),
+    ("a digit and a Devanagari digit, a space", |size| "1१ ".repeat(size / 5)),
     ("Arabic letters alone", |size| "ب".repeat(size / 2)),
     ("`/*/*/*`, none closed", |size| "/*".repeat(size / 2)),
     ("one string of escapes", |size| format!("'{}", "\\'".repeat(size / 2 - 1))),

@@ -23,11 +23,11 @@ mod timing;
 #[cfg(all(linked, oracle))]
 fn main() {
     let chosen = &chosen::Chosen::by_words();
-    let (all, two, first) = (&texts::GROUPS[..], &texts::GROUPS[..2], &texts::GROUPS[..1]);
-    tables::table(chosen, "Full list", two, tables::full);
-    tables::table(chosen, "Lean list", two, tables::lean);
-    tables::table(chosen, "Masked copy", two, tables::mask);
-    tables::table(chosen, "Steps from edge to edge", two, tables::steps);
+    let (all, three, first) = (&texts::GROUPS[..], &texts::GROUPS[..3], &texts::GROUPS[..1]);
+    tables::table(chosen, "Full list", three, tables::full);
+    tables::table(chosen, "Lean list", three, tables::lean);
+    tables::table(chosen, "Masked copy", three, tables::mask);
+    tables::table(chosen, "Steps from edge to edge", three, tables::steps);
     tables::table(chosen, "Steps over damaged text", &damaged::GROUPS, tables::damaged_steps);
     tables::table(chosen, "Place of the last byte", all, tables::place);
     tables::table(chosen, "Test for UTF-8 alone", first, tables::valid);

@@ -43,6 +43,24 @@ pub const REPEATED: [Text; 18] = [
     ("short here-documents", |r, size| fitted(String::new(), size, || short_here_document(r))),
 ];
 
+/// Words that begin with an ASCII letter and go on with characters that are looked up in the table of classes.
+pub const LOOKED_UP: [Text; 14] = [
+    ("short words of Devanagari letters", |r, size| short_words(size, || letters(r, 'ऄ'..='ह', 5))),
+    ("short words of Georgian letters", |r, size| short_words(size, || letters(r, 'ა'..='ჰ', 5))),
+    ("short words of CJK letters", |r, size| short_words(size, || letters(r, '一'..='龥', 5))),
+    ("short words of Hangul letters", |r, size| short_words(size, || letters(r, '가'..='힣', 5))),
+    ("short words of Thai letters", |r, size| short_words(size, || letters(r, 'ก'..='ะ', 5))),
+    ("short words of Tamil letters", |r, size| short_words(size, || some_of(r, &TAMIL, 5))),
+    ("short words of Greek letters", |r, size| short_words(size, || letters(r, 'α'..='ω', 5))),
+    ("short words of letters of every script", every_script),
+    ("short words of digits of other scripts", |r, size| short_words(size, || some_of(r, &DIGITS, 5))),
+    ("one word of Devanagari letters", |r, size| closed("a", size, "", || letters(r, 'ऄ'..='ह', 9))),
+    ("one word of Georgian letters", |r, size| closed("a", size, "", || letters(r, 'ა'..='ჰ', 9))),
+    ("one word of CJK letters", |r, size| closed("a", size, "", || letters(r, '一'..='龥', 9))),
+    ("one word of Tamil letters", |r, size| closed("a", size, "", || some_of(r, &TAMIL, 9))),
+    ("one word of digits of other scripts", |r, size| closed("a", size, "", || some_of(r, &DIGITS, 9))),
+];
+
 /// Texts that matter to places alone.
 pub const LINES: [Text; 3] = [
     ("Hebrew in one line", |r, size| fitted(String::new(), size, || letters(r, 'א'..='ת', 9) + r.one_of(&[" ", " ", " ", ", ", ". "]))),
@@ -53,7 +71,8 @@ pub const LINES: [Text; 3] = [
 /// A group of texts, with its name.
 pub type Group<T = String> = (&'static str, &'static [Text<T>]);
 
-pub const GROUPS: [Group; 3] = [("texts", &TEXTS), ("one thing again and again", &REPEATED), ("lines and columns", &LINES)];
+pub const GROUPS: [Group; 4] =
+    [("texts", &TEXTS), ("one thing again and again", &REPEATED), ("words by the table of classes", &LOOKED_UP), ("lines and columns", &LINES)];
 
 /// Goes on with pieces to a number of bytes. The last piece is cut at a character's edge, and spaces fill up what is left.
 pub fn fitted(mut text: String, size: usize, mut piece: impl FnMut() -> String) -> String {
@@ -86,6 +105,40 @@ fn closed(open: &str, size: usize, close: &str, mut piece: impl FnMut() -> Strin
 pub fn letters(r: &mut Random, range: std::ops::RangeInclusive<char>, most: usize) -> String {
     let (first, last) = (*range.start() as u32, *range.end() as u32);
     (0..1 + r.below(most)).map(|_| char::from_u32(first + r.below((last - first + 1) as usize) as u32).unwrap()).collect()
+}
+
+/// One to `most` of some characters.
+fn some_of(r: &mut Random, characters: &[char], most: usize) -> String {
+    (0..1 + r.below(most)).map(|_| r.one_of(characters)).collect()
+}
+
+/// Words of an ASCII letter and what follows it.
+fn short_words(size: usize, mut rest: impl FnMut() -> String) -> String {
+    fitted(String::new(), size, || format!("a{} ", rest()))
+}
+
+/// The consonants, which stand in several ranges with gaps between.
+#[rustfmt::skip]
+const TAMIL: [char; 23] = [
+    'க', 'ங', 'ச', 'ஜ', 'ஞ', 'ட', 'ண', 'த', 'ந', 'ன', 'ப', 'ம', 'ய', 'ர', 'ற', 'ல', 'ள', 'ழ', 'வ', 'ஶ', 'ஷ', 'ஸ', 'ஹ',
+];
+
+/// Devanagari, Arabic, Thai and fullwidth ones.
+#[rustfmt::skip]
+const DIGITS: [char; 40] = [
+    '०', '१', '२', '३', '४', '५', '६', '७', '८', '९', '٠', '١', '٢', '٣', '٤', '٥', '٦', '٧', '٨', '٩',
+    '๐', '๑', '๒', '๓', '๔', '๕', '๖', '๗', '๘', '๙', '０', '１', '２', '３', '４', '５', '６', '７', '８', '９',
+];
+
+/// Letters from U+0250 on. Each run of them is as likely as another: by their codes, three of four would be CJK or Hangul.
+fn every_script(r: &mut Random, size: usize) -> String {
+    let letters: Vec<char> = ('\u{250}'..=char::MAX).filter(|c| c.is_alphabetic()).collect();
+    let runs: Vec<&[char]> = letters.chunk_by(|a, b| *a as u32 + 1 == *b as u32).collect();
+    let letter = |r: &mut Random| {
+        let run = r.one_of(&runs);
+        r.one_of(run)
+    };
+    short_words(size, || (0..1 + r.below(5)).map(|_| letter(r)).collect())
 }
 
 /// Small letters.
