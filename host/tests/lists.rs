@@ -97,6 +97,20 @@ fn every_character() {
     println!("every character, first, in a word, after a number and in a string: {compared} calls");
 }
 
+/// Above, the number before a letter is a part of a word; here it is not. The texts are longer than a block. Each character stands in them an even
+/// number of times, so that a quote is closed.
+#[test]
+fn every_character_in_words_and_after_numbers() {
+    let pieces: Vec<String> = ('\0'..=char::MAX).map(|c| format!("a{c}b _{c}1 1{c}b 1_{c}b\n")).collect();
+    let mut compared = 0;
+    for some in pieces.chunks(1 << 6) {
+        let text = some.concat();
+        let calls = [0, 1].map(|mode| Call::list(Op::List, mode, 0, text.as_bytes(), TOKEN_BYTES * text.len()));
+        compared += compare(&calls, calls.iter().map(want));
+    }
+    println!("{} characters in a word, after a number and in a word that starts with one, 64 of them in a text: {compared} calls", pieces.len());
+}
+
 #[test]
 fn random_texts() {
     let mut r = Random(0x13198A2E03707344);
