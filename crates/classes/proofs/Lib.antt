@@ -1,2 +1,6 @@
 -- What the proofs share.
+pub mod Strides
+pub mod Sums
+pub mod Rows
+pub mod Wide
 pub mod Parts

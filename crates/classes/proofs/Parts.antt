@@ -2,24 +2,27 @@
 use Prim.Native.Nat.{ℕ, _-_}
 use mathlib.Core.Path.{_≡_, refl, ap, _∙_}
 use mathlib.Core.List.{List, _++_}
-use lib.ListN.{length, take, drop}
-use Rattle.rules.specs.Tables.{alphabeticTable, numericTable}
+use lib.ListN.{take, drop}
+use Rattle.classes.specs.StrideTable.{alphabeticIndex, numericIndex}
 use Rattle.classes.specs.Held.{Held}
 
--- where Alphabetic's bounds end
+-- where Alphabetic's index ends, and then that of Nd, Nl and No
 abbrev pub alphabeticEnd : ℕ
-alphabeticEnd = 1522
+alphabeticEnd = 82
 
-first-part : take (alphabeticEnd - 0) (alphabeticTable ++ numericTable) ≡ alphabeticTable
-unfolding alphabeticTable numericTable
+abbrev pub numericEnd : ℕ
+numericEnd = 126
+
+first-part : take (alphabeticEnd - 0) (alphabeticIndex ++ numericIndex) ≡ alphabeticIndex
+unfolding alphabeticIndex numericIndex
 first-part = refl
 
-last-part : take (length (alphabeticTable ++ numericTable) - alphabeticEnd) (drop alphabeticEnd (alphabeticTable ++ numericTable)) ≡ numericTable
-unfolding alphabeticTable numericTable
+last-part : take (numericEnd - alphabeticEnd) (drop alphabeticEnd (alphabeticIndex ++ numericIndex)) ≡ numericIndex
+unfolding alphabeticIndex numericIndex
 last-part = refl
 
-pub alphabetic-part : (t : List ℕ) → Held t → take (alphabeticEnd - 0) t ≡ alphabeticTable
+pub alphabetic-part : (t : List ℕ) → Held t → take (alphabeticEnd - 0) t ≡ alphabeticIndex
 alphabetic-part t h = ap (take (alphabeticEnd - 0)) (h .both) ∙ first-part
 
-pub numeric-part : (t : List ℕ) → Held t → take (length t - alphabeticEnd) (drop alphabeticEnd t) ≡ numericTable
-numeric-part t h = ap (λ (u : List ℕ). take (length u - alphabeticEnd) (drop alphabeticEnd u)) (h .both) ∙ last-part
+pub numeric-part : (t : List ℕ) → Held t → take (numericEnd - alphabeticEnd) (drop alphabeticEnd t) ≡ numericIndex
+numeric-part t h = ap (λ (u : List ℕ). take (numericEnd - alphabeticEnd) (drop alphabeticEnd u)) (h .both) ∙ last-part

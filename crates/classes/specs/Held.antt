@@ -2,7 +2,7 @@
 use Prim.Native.Nat.{ℕ}
 use mathlib.Core.Path.{_≡_}
 use mathlib.Core.List.{List, _++_}
-use Rattle.rules.specs.Tables.{alphabeticTable, numericTable}
+use Rattle.classes.specs.StrideTable.{alphabeticIndex, numericIndex}
 
 pub record Held (table : List ℕ) : Type 0 where
-  pub both : table ≡ alphabeticTable ++ numericTable
+  pub both : table ≡ alphabeticIndex ++ numericIndex

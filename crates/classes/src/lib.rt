@@ -3,14 +3,17 @@
 // The compiler keeps no data of its own: a table is copied to the stack wherever it is named. So a loop makes the table once,
 // at its first character past ASCII, and lends it to `is_alphanumeric_in`, which has no ASCII path of its own. How it holds the
 // classes is known in this crate alone.
+mod ranges;
 pub mod tables;
 
+use ranges::in_ranges;
 use tables::ALPHABETIC_END;
 use tables::CLASSES;
 use tables::ClassTable;
+use tables::NUMERIC_END;
 ghost use mathlib.Core.Path.{_≡_};
 ghost use mathlib.Core.Bool.{true};
-ghost use Rattle.rules.specs.Classes.{inRanges, rises, whiteSpace, alphabetic, alphanumeric, letter, digit};
+ghost use Rattle.rules.specs.Classes.{whiteSpace, alphabetic, alphanumeric, letter, digit};
 ghost use Rattle.classes.specs.Held.{Held};
 
 pub fn is_white_space(c: u32) -> bool
@@ -59,16 +62,26 @@ fn is_alphabetic_in(table: &ClassTable, c: u32) -> bool
     requires { ⌜ Held (now table) ⌝ }
     ensures { λ r. ⌜ r ≡ alphabetic c ⌝ }
 {
-    let bounds = &table[..];
-    in_ranges(&bounds[0..ALPHABETIC_END], c)
+    if is_wide(c) {
+        return true;
+    }
+    let t = &table[..];
+    in_ranges(&t[0..ALPHABETIC_END], c)
+}
+
+// True only if `c` is in one of the two widest ranges below U+10000: CJK ideographs with Yi, and Hangul. By comparisons, since no search is as quick.
+fn is_wide(c: u32) -> bool
+    ensures { λ r. ⌜ (r ≡ true → alphabetic c ≡ true) ⌝ }
+{
+    (0x4E00 <= c) & (c < 0xA48D) | (0xAC00 <= c) & (c < 0xD7A4)
 }
 
 pub fn is_alphanumeric_in(table: &ClassTable, c: u32) -> bool
     requires { ⌜ Held (now table) ⌝ }
     ensures { λ r. ⌜ r ≡ alphanumeric c ⌝ }
 {
-    let bounds = &table[..];
-    is_alphabetic_in(table, c) || in_ranges(&bounds[ALPHABETIC_END..], c)
+    let t = &table[..];
+    is_alphabetic_in(table, c) || in_ranges(&t[ALPHABETIC_END..NUMERIC_END], c)
 }
 
 fn is_letter(c: u32) -> bool
@@ -81,22 +94,4 @@ fn is_digit(c: u32) -> bool
     ensures { λ r. ⌜ r ≡ digit c ⌝ }
 {
     (0x30 <= c) & (c <= 0x39)
-}
-
-// `c` is in a range of `t` where the bounds that are at most `c` are odd in number.
-fn in_ranges(t: &[u32], c: u32) -> bool
-    requires { ⌜ rises (now t) ≡ true ⌝ }
-    ensures { λ r. ⌜ r ≡ inRanges (now (t .entry)) c ⌝ }
-{
-    let mut lo = 0;
-    let mut hi = t.len();
-    while lo < hi {
-        let mid = lo + (hi - lo) / 2;
-        if t[mid] <= c {
-            lo = mid + 1;
-        } else {
-            hi = mid;
-        }
-    }
-    lo % 2 == 1
 }

@@ -1,12 +1,12 @@
--- The code's table is the definition's two, number by number.
+-- The code's table is the definition's two indexes, number by number.
 -- Assumes nothing.
 use mathlib.Core.Path.{refl}
-use Rattle.rules.specs.Tables.{alphabeticTable, numericTable}
+use Rattle.classes.specs.StrideTable.{alphabeticIndex, numericIndex}
 use Rattle.classes.proofs.class_table.Statement.{statement}
 use Rattle.classes.proofs.class_table.Tie as tie
 
 returns : tie.Need-returns
-unfolding alphabeticTable numericTable
+unfolding alphabeticIndex numericIndex
 returns c = record { both = refl }
 
 pub class-table-spec : {M : Type 1} → statement M

@@ -3,8 +3,8 @@
 use mathlib.Core.Path.{_≡_}
 use mathlib.Core.Bool.{true, false}
 use Rattle.rules.specs.Classes.{alphabetic, numeric, alphanumeric}
-use Rattle.rules.proofs.Tables.{numeric-rises}
 use borrow.Author.Needs.{needs}
+use Rattle.classes.proofs.Sums.{numeric-sums, numeric-form}
 use Rattle.classes.proofs.Parts.{numeric-part}
 use Rattle.classes.proofs.is_alphanumeric_in.Statement.{statement}
 use Rattle.classes.proofs.is_alphanumeric_in.Tie as tie
@@ -13,7 +13,7 @@ is-alphabetic-in-requires : tie.Need-is-alphabetic-in-requires
 is-alphabetic-in-requires c κs = search needs
 
 in-ranges-requires : tie.Need-in-ranges-requires
-in-ranges-requires c κs = rw (numeric-part _ (c .before .before .before .before .pre)) numeric-rises
+in-ranges-requires c κs = rw (numeric-part _ (c .before .before .before .before .pre)) numeric-form
 
 returns : tie.Need-returns
 unfolding alphanumeric
@@ -25,7 +25,7 @@ returns-2 : tie.Need-returns-2
 unfolding alphanumeric numeric
 returns-2 c =
     let a : alphabetic (c .before .before .before .before .before .args .c) ≡ false = cc in
-    rw a (rw (numeric-part _ (c .before .before .before .before .before .pre)) at (c .in-ranges .ensures))
+    rw a (rw (numeric-part _ (c .before .before .before .before .before .pre), numeric-sums) at (c .in-ranges .ensures))
 
 pub is-alphanumeric-in-spec : {M : Type 1} → statement M
 is-alphanumeric-in-spec =

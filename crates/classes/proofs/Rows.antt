@@ -1,0 +1,101 @@
+-- Laws of rows of eight strides. Assumes nothing.
+use Prim.Native.Nat.{ℕ, zero, suc, _+_, _-_, _*_, _/_, _%_, _^_, _≤_, _<_, zero-le}
+use native.Mathlib.Omega.{arith}
+use native.Mathlib.Nat.{div-one, div-div-eq-div-mul, eq-or-lt-of-le}
+use lib.Pow.{pow-add}
+use mathlib.Core.Logic.{⊎-elim}
+use mathlib.Core.Path.{_≡_, refl, sym, ap, _∙_}
+use mathlib.Core.List.{List, [], _∷_}
+use mathlib.Core.Bool.{Bool, true, false, _&&_}
+use lib.ListN.{length, getD, List·getD-eq-default}
+use lib.Dec.{leb, ltb}
+use borrow.Author.Tests.{leb-true, ltb-true}
+use Rattle.rules.proofs.Tests.{and-both}
+use Rattle.runs.specs.Lanes.{packed}
+use Rattle.classes.specs.StrideTable.{strides}
+use Rattle.classes.specs.Strides.{total}
+use Rattle.classes.specs.Rows.{byteSum}
+use Rattle.classes.proofs.Strides.{total-stride}
+
+-- A stride is below 256: one computed test.
+abbrev bytes : List ℕ → Bool
+bytes [] = true
+bytes (s ∷ l) = ltb s 256 && bytes l
+
+bytes-at : (l : List ℕ) → bytes l ≡ true → (k : ℕ) → getD l k 0 < 256
+bytes-at [] h k = omega arith
+bytes-at (s ∷ l) h zero = ltb-true s 256 (and-both (ltb s 256) (bytes l) h .0)
+bytes-at (s ∷ l) h (suc k) = bytes-at l (and-both (ltb s 256) (bytes l) h .1) k
+
+pub stride-small : (k : ℕ) → getD strides k 0 < 256
+unfolding strides
+stride-small = bytes-at strides refl
+
+-- The first of a row, and the rest.
+pub row-first : (n i : ℕ) → packed (suc n) strides i % 256 ≡ getD strides i 0
+unfolding packed
+row-first n i = omega (arith, stride-small i)
+
+pub row-rest : (n i : ℕ) → packed (suc n) strides i / 256 ≡ packed n strides (i + 1)
+unfolding packed
+row-rest n i = omega (arith, stride-small i)
+
+-- A sum of bytes by its first one.
+pub next-byte : (n x : ℕ) → n < 8 → byteSum (8 - n) x ≡ x % 256 + byteSum (8 - (n + 1)) (x / 256)
+unfolding byteSum
+next-byte n x l = let e : 8 - n ≡ suc (8 - (n + 1)) = omega arith in rw e refl
+
+pub no-byte : (x : ℕ) → byteSum 0 x ≡ 0
+unfolding byteSum
+no-byte x = refl
+
+-- The bytes of a row are its strides.
+pub row-sum : (n i : ℕ) → total strides i + byteSum n (packed n strides i) ≡ total strides (i + n)
+unfolding byteSum packed
+row-sum zero i = let e : i + 0 ≡ i = omega arith in rw e (omega arith)
+row-sum (suc n) i =
+    let e : i + suc n ≡ i + 1 + n = omega arith in
+    rw (e, row-first n i, row-rest n i) (omega (arith, row-sum n (i + 1), total-stride strides i))
+
+-- Stride j of a row.
+pub row-at : (j n i : ℕ) → packed (j + suc n) strides i / 2 ^ (j * 8) % 256 ≡ getD strides (i + j) 0
+row-at zero n i =
+    let e : i + 0 ≡ i = omega arith in
+    let z : 0 + suc n ≡ suc n = omega arith in
+    rw (e, z) (ap (λ (x : ℕ). x % 256) (div-one (packed (suc n) strides i)) ∙ row-first n i)
+row-at (suc j) n i =
+    let e : i + suc j ≡ i + 1 + j = omega arith in
+    let z : suc j + suc n ≡ suc (j + suc n) = omega arith in
+    let p : 2 ^ (suc j * 8) ≡ 256 * 2 ^ (j * 8) = ap (λ (x : ℕ). 2 ^ x) (let q : suc j * 8 ≡ 8 + j * 8 = omega arith in q) ∙ pow-add 2 8 (j * 8) in
+    let d = div-div-eq-div-mul (packed (suc (j + suc n)) strides i) 256 (2 ^ (j * 8)) in
+    rw (e, z, p, sym d, row-rest (j + suc n) i) (row-at j n (i + 1))
+
+-- The stride at k, by its row.
+pub stride-at : (k : ℕ) → packed 8 strides (8 * (k / 8)) / 2 ^ (k % 8 * 8) % 256 ≡ getD strides k 0
+stride-at k =
+    let e : 8 * (k / 8) + k % 8 ≡ k = omega arith in
+    let z : k % 8 + suc (7 - k % 8) ≡ 8 = omega arith in
+    rw (z, e) at (row-at (k % 8) (7 - k % 8) (8 * (k / 8)))
+
+-- A whole row, from its first stride on.
+pub whole-row : (k : ℕ) → k % 8 ≡ 0 → total strides k + byteSum 8 (packed 8 strides (8 * (k / 8)) / 2 ^ (k % 8 * 8)) ≡ total strides (k + 8)
+whole-row k z =
+    let e : 8 * (k / 8) ≡ k = omega arith in
+    rw (z, e) (ap (λ (x : ℕ). total strides k + byteSum 8 x) (div-one (packed 8 strides k)) ∙ row-sum 8 k)
+
+-- A match on a row: in the last arm every row is ruled out, the last first.
+abbrev Missed : ℕ → ℕ → Type 0
+Missed zero a = Unit {0}
+Missed (suc n) a = Missed n a × (a ≡ n → ⊥)
+
+missed : (n a : ℕ) → Missed n a → n ≤ a
+missed zero a m = zero-le
+missed (suc n) a m = ⊎-elim (λ (e : n ≡ a). absurd (m .1 (sym e))) (λ l. l) (eq-or-lt-of-le (missed n a (m .0)))
+
+packed-past : (n i : ℕ) → length strides ≤ i → packed n strides i ≡ 0
+unfolding packed
+packed-past zero i h = refl
+packed-past (suc n) i h = omega (arith, packed-past n (i + 1) (omega arith), List·getD-eq-default strides 0 h)
+
+pub past-rows : (n row : ℕ) → leb (length strides) (8 * n) ≡ true → Missed n row → 0 ≡ packed 8 strides (8 * row)
+past-rows n row h m = sym (packed-past 8 (8 * row) (omega (arith, leb-true (length strides) (8 * n) h, missed n row m)))

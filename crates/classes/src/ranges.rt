@@ -1,0 +1,83 @@
+// A class by an index of checkpoints and by strides between them.
+use crate::tables::eight_strides;
+ghost use Prim.Native.Nat.{_≤_, _<_};
+ghost use lib.ListN.{length};
+ghost use mathlib.Core.Path.{_≡_};
+ghost use Rattle.rules.specs.Classes.{inRanges};
+ghost use Rattle.classes.specs.StrideTable.{strides};
+ghost use Rattle.classes.specs.Strides.{bound, count, bounds, Form, Reached, Passed};
+ghost use Rattle.classes.specs.Rows.{byteSum};
+
+// From checkpoint `i` on, `by` at a time, to where the next would be past `c`. A search by halves would wait for each load before the next; here
+// the processor foresees the jumps, since the characters of a word are mostly of one script.
+fn go_on(index: &[u32], i: usize, by: usize, c: u32) -> usize
+    requires { ⌜ (i < count (now index)) × (0 < by) × (by ≤ 8) × (bound (now index) i ≤ c) ⌝ }
+    ensures { λ r. ⌜ Reached (now (index .entry)) c by r ⌝ }
+{
+    let count = index.len() - 1;
+    let mut i = i;
+    while i + by < count {
+        if c < index[i + by] / 4096 {
+            return i;
+        }
+        i += by;
+    }
+    i
+}
+
+// The eight strides of a row in all.
+fn row_sum(row: u64) -> u32
+    ensures { λ r. ⌜ r ≡ byteSum 8 row ⌝ }
+{
+    let mut sum: u32 = 0;
+    let mut rest = row;
+    let mut n: usize = 0;
+    while n < 8 {
+        sum += (rest % 256) as u32;
+        rest /= 256;
+        n += 1;
+    }
+    sum
+}
+
+// How far one comes over the strides from `at` to `end` with so much.
+fn pass(at: usize, end: usize, left: u32) -> usize
+    requires { ⌜ at ≤ end ⌝ }
+    ensures { λ r. ⌜ Passed strides at end left r ⌝ }
+{
+    let mut k = at;
+    let mut left = left;
+    while k < end {
+        let row = eight_strides(k / 8) >> (k % 8 * 8);
+        if (k % 8 == 0) & (end - k >= 8) {
+            let sum = row_sum(row);
+            if sum <= left {
+                left -= sum;
+                k += 8;
+                continue;
+            }
+        }
+        let stride = (row % 256) as u32;
+        if left < stride {
+            return k;
+        }
+        left -= stride;
+        k += 1;
+    }
+    k
+}
+
+// `c` is in a range where the bounds that are at most `c` are odd in number: the checkpoints to `i`, and the strides to where one comes from it.
+pub(crate) fn in_ranges(index: &[u32], c: u32) -> bool
+    requires { ⌜ Form strides (now index) ⌝ }
+    ensures { λ r. ⌜ r ≡ inRanges (bounds strides (now (index .entry))) c ⌝ }
+{
+    if c < index[0] / 4096 {
+        return false;
+    }
+    let i = go_on(index, go_on(index, 0, 8, c), 1, c);
+    let at = index[i] % 4096;
+    let end = index[i + 1] % 4096;
+    let k = pass(at as usize, end as usize, c - index[i] / 4096);
+    (i + 1 + (k - (index[0] % 4096) as usize)) % 2 == 1
+}
