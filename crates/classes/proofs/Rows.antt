@@ -57,31 +57,39 @@ row-sum (suc n) i =
     let e : i + suc n ≡ i + 1 + n = omega arith in
     rw (e, row-first n i, row-rest n i) (omega (arith, row-sum n (i + 1), total-stride strides i))
 
--- Stride j of a row.
-pub row-at : (j n i : ℕ) → packed (j + suc n) strides i / 2 ^ (j * 8) % 256 ≡ getD strides (i + j) 0
-row-at zero n i =
+-- A row without its first j strides.
+row-drop : (j n i : ℕ) → packed (j + n) strides i / 2 ^ (j * 8) ≡ packed n strides (i + j)
+row-drop zero n i =
     let e : i + 0 ≡ i = omega arith in
-    let z : 0 + suc n ≡ suc n = omega arith in
-    rw (e, z) (ap (λ (x : ℕ). x % 256) (div-one (packed (suc n) strides i)) ∙ row-first n i)
-row-at (suc j) n i =
+    let z : 0 + n ≡ n = omega arith in
+    rw (e, z) (div-one (packed n strides i))
+row-drop (suc j) n i =
     let e : i + suc j ≡ i + 1 + j = omega arith in
-    let z : suc j + suc n ≡ suc (j + suc n) = omega arith in
+    let z : suc j + n ≡ suc (j + n) = omega arith in
     let p : 2 ^ (suc j * 8) ≡ 256 * 2 ^ (j * 8) = ap (λ (x : ℕ). 2 ^ x) (let q : suc j * 8 ≡ 8 + j * 8 = omega arith in q) ∙ pow-add 2 8 (j * 8) in
-    let d = div-div-eq-div-mul (packed (suc (j + suc n)) strides i) 256 (2 ^ (j * 8)) in
-    rw (e, z, p, sym d, row-rest (j + suc n) i) (row-at j n (i + 1))
+    let d = div-div-eq-div-mul (packed (suc (j + n)) strides i) 256 (2 ^ (j * 8)) in
+    rw (e, z, p, sym d, row-rest (j + n) i) (row-drop j n (i + 1))
 
--- The stride at k, by its row.
-pub stride-at : (k : ℕ) → packed 8 strides (8 * (k / 8)) / 2 ^ (k % 8 * 8) % 256 ≡ getD strides k 0
-stride-at k =
+-- The strides from k on to the end of its row.
+pub row-from : (k : ℕ) → packed 8 strides (8 * (k / 8)) / 2 ^ (k % 8 * 8) ≡ packed (k / 8 * 8 + 8 - k) strides k
+row-from k =
     let e : 8 * (k / 8) + k % 8 ≡ k = omega arith in
-    let z : k % 8 + suc (7 - k % 8) ≡ 8 = omega arith in
-    rw (z, e) at (row-at (k % 8) (7 - k % 8) (8 * (k / 8)))
+    let z : k % 8 + (k / 8 * 8 + 8 - k) ≡ 8 = omega arith in
+    rw (z, e) at (row-drop (k % 8) (k / 8 * 8 + 8 - k) (8 * (k / 8)))
 
--- A whole row, from its first stride on.
-pub whole-row : (k : ℕ) → k % 8 ≡ 0 → total strides k + byteSum 8 (packed 8 strides (8 * (k / 8)) / 2 ^ (k % 8 * 8)) ≡ total strides (k + 8)
+-- The next of the strides that are left of a row, and what is left then.
+pub next-stride : (stop k : ℕ) → k < stop → packed (stop - k) strides k % 256 ≡ getD strides k 0
+next-stride stop k l = let e : stop - k ≡ suc (stop - (k + 1)) = omega arith in rw e (row-first (stop - (k + 1)) k)
+
+pub next-rest : (stop k : ℕ) → k < stop → packed (stop - k) strides k / 256 ≡ packed (stop - (k + 1)) strides (k + 1)
+next-rest stop k l = let e : stop - k ≡ suc (stop - (k + 1)) = omega arith in rw e (row-rest (stop - (k + 1)) k)
+
+-- A whole row.
+pub whole-row : (k : ℕ) → k % 8 ≡ 0 → total strides k + byteSum 8 (packed 8 strides (8 * (k / 8))) ≡ total strides (k / 8 * 8 + 8)
 whole-row k z =
     let e : 8 * (k / 8) ≡ k = omega arith in
-    rw (z, e) (ap (λ (x : ℕ). total strides k + byteSum 8 x) (div-one (packed 8 strides k)) ∙ row-sum 8 k)
+    let f : k / 8 * 8 + 8 ≡ k + 8 = omega arith in
+    rw (e, f) (row-sum 8 k)
 
 -- A match on a row: in the last arm every row is ruled out, the last first.
 abbrev Missed : ℕ → ℕ → Type 0

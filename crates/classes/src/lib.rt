@@ -1,8 +1,8 @@
 // The classes of characters, by their codes.
 //
-// The compiler keeps no data of its own: a table is copied to the stack wherever it is named. So a loop makes the table once,
-// at its first character past ASCII, and lends it to `is_alphanumeric_in`, which has no ASCII path of its own. How it holds the
-// classes is known in this crate alone.
+// The compiler keeps no array: one is copied to the stack wherever it is named. So a loop makes the table once, at its first
+// character past ASCII, and lends it to `is_alphanumeric_in`, which has no ASCII path of its own. The table is an index; the bulk
+// of the data, the strides, is a match, which is not copied. How the classes are held is known in this crate alone.
 mod ranges;
 pub mod tables;
 

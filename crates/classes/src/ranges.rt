@@ -1,6 +1,7 @@
 // A class by an index of checkpoints and by strides between them.
+use crate::tables::PLACES;
 use crate::tables::eight_strides;
-ghost use Prim.Native.Nat.{_≤_, _<_};
+ghost use Prim.Native.Nat.{_≤_, _<_, min};
 ghost use lib.ListN.{length};
 ghost use mathlib.Core.Path.{_≡_};
 ghost use Rattle.rules.specs.Classes.{inRanges};
@@ -17,7 +18,7 @@ fn go_on(index: &[u32], i: usize, by: usize, c: u32) -> usize
     let count = index.len() - 1;
     let mut i = i;
     while i + by < count {
-        if c < index[i + by] / 4096 {
+        if c < index[i + by] / PLACES {
             return i;
         }
         i += by;
@@ -40,29 +41,41 @@ fn row_sum(row: u64) -> u32
     sum
 }
 
-// How far one comes over the strides from `at` to `end` with so much.
+fn lesser(a: usize, b: usize) -> usize
+    ensures { λ r. ⌜ r ≡ min a b ⌝ }
+{
+    if a < b { a } else { b }
+}
+
+// How far one comes over the strides from `at` to `end` with so much: by whole rows where it can be.
 fn pass(at: usize, end: usize, left: u32) -> usize
-    requires { ⌜ at ≤ end ⌝ }
+    requires { ⌜ (at ≤ end) × (end < 4096) ⌝ }
     ensures { λ r. ⌜ Passed strides at end left r ⌝ }
 {
     let mut k = at;
     let mut left = left;
     while k < end {
-        let row = eight_strides(k / 8) >> (k % 8 * 8);
-        if (k % 8 == 0) & (end - k >= 8) {
+        let row = eight_strides(k / 8);
+        let stop = k / 8 * 8 + 8;
+        if (k % 8 == 0) & (stop <= end) {
             let sum = row_sum(row);
             if sum <= left {
                 left -= sum;
-                k += 8;
+                k = stop;
                 continue;
             }
         }
-        let stride = (row % 256) as u32;
-        if left < stride {
-            return k;
+        let mut rest = row >> (k % 8 * 8);
+        let last = lesser(stop, end);
+        while k < last {
+            let stride = (rest % 256) as u32;
+            if left < stride {
+                return k;
+            }
+            left -= stride;
+            rest /= 256;
+            k += 1;
         }
-        left -= stride;
-        k += 1;
     }
     k
 }
@@ -72,12 +85,12 @@ pub(crate) fn in_ranges(index: &[u32], c: u32) -> bool
     requires { ⌜ Form strides (now index) ⌝ }
     ensures { λ r. ⌜ r ≡ inRanges (bounds strides (now (index .entry))) c ⌝ }
 {
-    if c < index[0] / 4096 {
+    if c < index[0] / PLACES {
         return false;
     }
     let i = go_on(index, go_on(index, 0, 8, c), 1, c);
-    let at = index[i] % 4096;
-    let end = index[i + 1] % 4096;
-    let k = pass(at as usize, end as usize, c - index[i] / 4096);
-    (i + 1 + (k - (index[0] % 4096) as usize)) % 2 == 1
+    let at = index[i] % PLACES;
+    let end = index[i + 1] % PLACES;
+    let k = pass(at as usize, end as usize, c - index[i] / PLACES);
+    (i + 1 + (k - (index[0] % PLACES) as usize)) % 2 == 1
 }

@@ -4,6 +4,9 @@ ghost use mathlib.Core.Path.{_≡_};
 ghost use Rattle.runs.specs.Lanes.{packed};
 ghost use Rattle.classes.specs.StrideTable.{strides};
 
+// A checkpoint is its bound times this, and its place among the strides.
+pub(crate) const PLACES: u32 = 4096;
+
 pub const ALPHABETIC_END: usize = 82;
 
 pub const NUMERIC_END: usize = 126;

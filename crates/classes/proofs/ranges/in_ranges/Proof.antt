@@ -27,7 +27,7 @@ go-on-requires c κs = (some _ _ (c .before .before .before .pre), omega arith, 
 pass-requires : tie.Need-pass-requires
 pass-requires c κs =
     let i = c .before .before .before .go-on2 in
-    begins _ _ (c .before .before .before .before .before .before .before .before .pre) (i .result) (i .ensures .within)
+    (begins _ _ (c .before .before .before .before .before .before .before .before .pre) (i .result) (i .ensures .within), omega arith)
 
 -- no stride before the class's first
 begun : (c : tie.After-pass) → place (now (c .before .before .before .before .before .before .before .before .before .args .index)) 0 ≤ c .pass .result
