@@ -97,8 +97,8 @@ fn every_character() {
     println!("every character, first, in a word, after a number and in a string: {compared} calls");
 }
 
-/// Above, the number before a letter is a part of a word; here it is not. The texts are longer than a block. Each character stands in them an even
-/// number of times, so that a quote is closed.
+/// Above, a word has begun before the number; here the number comes first. The texts are longer than a block. Each character stands in them an
+/// even number of times, so that a quote is closed.
 #[test]
 fn every_character_in_words_and_after_numbers() {
     let pieces: Vec<String> = ('\0'..=char::MAX).map(|c| format!("a{c}b _{c}1 1{c}b 1_{c}b\n")).collect();

@@ -6,7 +6,7 @@ use lib.Pow.{pow-add}
 use mathlib.Core.Logic.{⊎-elim}
 use mathlib.Core.Path.{_≡_, refl, sym, ap, _∙_}
 use mathlib.Core.List.{List, [], _∷_}
-use mathlib.Core.Bool.{Bool, true, false, _&&_}
+use mathlib.Core.Bool.{Bool, true, _&&_}
 use lib.ListN.{length, getD, List·getD-eq-default}
 use lib.Dec.{leb, ltb}
 use borrow.Author.Tests.{leb-true, ltb-true}
@@ -27,16 +27,16 @@ bytes-at [] h k = omega arith
 bytes-at (s ∷ l) h zero = ltb-true s 256 (and-both (ltb s 256) (bytes l) h .0)
 bytes-at (s ∷ l) h (suc k) = bytes-at l (and-both (ltb s 256) (bytes l) h .1) k
 
-pub stride-small : (k : ℕ) → getD strides k 0 < 256
+stride-small : (k : ℕ) → getD strides k 0 < 256
 unfolding strides
 stride-small = bytes-at strides refl
 
 -- The first of a row, and the rest.
-pub row-first : (n i : ℕ) → packed (suc n) strides i % 256 ≡ getD strides i 0
+row-first : (n i : ℕ) → packed (suc n) strides i % 256 ≡ getD strides i 0
 unfolding packed
 row-first n i = omega (arith, stride-small i)
 
-pub row-rest : (n i : ℕ) → packed (suc n) strides i / 256 ≡ packed n strides (i + 1)
+row-rest : (n i : ℕ) → packed (suc n) strides i / 256 ≡ packed n strides (i + 1)
 unfolding packed
 row-rest n i = omega (arith, stride-small i)
 
@@ -50,7 +50,7 @@ unfolding byteSum
 no-byte x = refl
 
 -- The bytes of a row are its strides.
-pub row-sum : (n i : ℕ) → total strides i + byteSum n (packed n strides i) ≡ total strides (i + n)
+row-sum : (n i : ℕ) → total strides i + byteSum n (packed n strides i) ≡ total strides (i + n)
 unfolding byteSum packed
 row-sum zero i = let e : i + 0 ≡ i = omega arith in rw e (omega arith)
 row-sum (suc n) i =

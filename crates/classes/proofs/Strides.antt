@@ -1,19 +1,19 @@
 -- Laws of strides and checkpoints: which bound stands where, and how many bounds are at most a code.
 -- Assumes nothing.
-use Prim.Native.Nat.{ℕ, zero, suc, _+_, _-_, _*_, _/_, _%_, _≤_, _<_, zero-le, suc-le-suc}
+use Prim.Native.Nat.{ℕ, zero, suc, _+_, _-_, _≤_, _<_, zero-le}
 use native.Mathlib.Omega.{arith}
 use native.Mathlib.Nat.{le-of-suc-le-suc, eq-or-lt-of-le, not-suc-le-zero}
 use mathlib.Core.Path.{_≡_, refl, sym, ap, _∙_}
 use mathlib.Core.List.{List, [], _∷_, _++_}
-use mathlib.Core.Bool.{Bool, true, _&&_}
+use mathlib.Core.Bool.{true}
 use mathlib.Core.Logic.{⊎-elim}
 use lib.ListN.{length, getD, take, drop, length-append, length-drop, List·getD-append}
 use lib.Seq.{length-take-le, getD-append-add}
 use lib.Dec.{leb, ltb}
 use borrow.Author.Tests.{leb-true, ltb-true}
 use Rattle.rules.proofs.Tests.{and-both}
-use Rattle.rules.proofs.Ranges.{Bracket, Bound, in-order}
-use Rattle.classes.specs.Strides.{bound, place, count, total, sums, walk, boundsFrom, bounds, placesFrom, places, Reached, Passed, Form}
+use Rattle.rules.proofs.Ranges.{Bound, in-order}
+use Rattle.classes.specs.Strides.{bound, place, count, total, sums, walk, boundsFrom, bounds, placesFrom, Reached, Passed, Form}
 
 total-none : (strides : List ℕ) → total strides 0 ≡ 0
 unfolding total
@@ -61,11 +61,11 @@ sums-at from (s ∷ strides) (suc k) h = omega (arith, sums-at (from + s) stride
 
 module _ (strides index : List ℕ) where
   -- What the test of the places says of n checkpoints from i on.
-  pub record Placed (i n : ℕ) : Type 0 where
-    pub mounts : (m : ℕ) → i ≤ m → m < i + n → place index m ≤ place index (m + 1)
-    pub since : (m : ℕ) → i ≤ m → m ≤ i + n → place index i ≤ place index m
-    pub until : (m : ℕ) → i ≤ m → m ≤ i + n → place index m ≤ place index (i + n)
-    pub inside : place index (i + n) ≤ length strides
+  record Placed (i n : ℕ) : Type 0 where
+    mounts : (m : ℕ) → i ≤ m → m < i + n → place index m ≤ place index (m + 1)
+    since : (m : ℕ) → i ≤ m → m ≤ i + n → place index i ≤ place index m
+    until : (m : ℕ) → i ≤ m → m ≤ i + n → place index m ≤ place index (i + n)
+    inside : place index (i + n) ≤ length strides
 
   placed : (i n : ℕ) → placesFrom strides index i n ≡ true → Placed i n
   unfolding placesFrom
@@ -129,7 +129,7 @@ module _ (strides index : List ℕ) where
       let e : i + suc n ≡ i + 1 + n = omega arith in
       rw e (omega (arith, length-append (sums (bound index i) (walk strides index i)) (boundsFrom strides index (i + 1) n), block-length i n h, upper i n h, bounds-length (i + 1) n (later i n h)))
 
-  -- Bound j of the strides of checkpoint m.
+  -- The bound at place j, among the strides of checkpoint m.
   bounds-at :
       (i n : ℕ) → placesFrom strides index i n ≡ true → (m j : ℕ) → i ≤ m → m < i + n → place index m ≤ j → j ≤ place index (m + 1)
       → getD (boundsFrom strides index i n) ((m - i) + (j - place index i)) 0 + total strides (place index m) ≡ bound index m + total strides j
@@ -161,7 +161,7 @@ module _ (strides index : List ℕ) where
           let q : (m - i) + (j - place index i) ≡ length block + ((m - (i + 1)) + (j - place index (i + 1))) = omega (arith, block-length i n h, upper i n h, s) in
           rw (q, getD-append-add block rest ((m - (i + 1)) + (j - place index (i + 1))) 0) e
 
--- Steps and an index that one can search in: what stands at each place, and how many of the bounds are at most a code.
+-- Strides and an index that one can search in: what stands at each place, and how many of the bounds are at most a code.
 module _ (strides index : List ℕ) (f : Form strides index) where
   tests : (ltb 0 (count index) ≡ true) × (placesFrom strides index 0 (count index) ≡ true)
   tests = and-both (ltb 0 (count index)) (placesFrom strides index 0 (count index)) (f .placed)
@@ -178,12 +178,9 @@ module _ (strides index : List ℕ) (f : Form strides index) where
   pub first-place : (i : ℕ) → i ≤ count index → place index 0 ≤ place index i
   first-place i l = all-placed .since i zero-le (let e : 0 + count index ≡ count index = omega arith in rw e l)
 
-  -- Where the strides of a checkpoint begin and end.
+  -- The strides of a checkpoint end where the next one's begin.
   pub begins : (i : ℕ) → i < count index → place index i ≤ place index (i + 1)
   begins i l = all-placed .mounts i zero-le (omega arith)
-
-  pub ends : (i : ℕ) → i < count index → place index (i + 1) ≤ length strides
-  ends i l = omega (arith, all-placed .until (i + 1) zero-le (omega arith), all-placed .inside)
 
   size : length (bounds strides index) + place index 0 ≡ count index + place index (count index)
   size = let e : 0 + count index ≡ count index = omega arith in rw e at (bounds-length strides index 0 (count index) (tests .1))
@@ -205,7 +202,6 @@ module _ (strides index : List ℕ) (f : Form strides index) where
         let z : 0 + (place index 0 - place index 0) ≡ 0 = omega arith in
         let e = rw z at (checkpoint-at 0 some) in
         record {
-          ordered = omega arith;
           inside = zero-le;
           below = λ k g. absurd (omega arith);
           above = λ k g g′. omega (arith, e, in-order (bounds strides index) (f .rising) 0 k zero-le g′);
@@ -213,7 +209,8 @@ module _ (strides index : List ℕ) (f : Form strides index) where
 
     -- The last checkpoint that is at most c, and as many of its strides as c is past.
     module _ (i k : ℕ) (r : Reached index c 1 i) (p : Passed strides (place index i) (place index (i + 1)) (c - bound index i) k) where
-      begun : place index 0 ≤ k
+      -- no stride before the class's first
+      pub begun : place index 0 ≤ k
       begun = omega (arith, p .from, first-place i (omega (arith, r .within)))
 
       fits : i + 1 + (k - place index 0) ≤ length (bounds strides index)
@@ -241,7 +238,6 @@ module _ (strides index : List ℕ) (f : Form strides index) where
 
       pub reached : Bound (bounds strides index) c (i + 1 + (k - place index 0))
       reached = record {
-        ordered = omega arith;
         inside = fits;
         below = λ m g. omega (arith, last-most, in-order (bounds strides index) (f .rising) m (i + (k - place index 0)) (omega arith) (omega (arith, fits)));
         above = λ m g g′. omega (arith, next-past (omega arith), in-order (bounds strides index) (f .rising) (i + 1 + (k - place index 0)) m g g′);

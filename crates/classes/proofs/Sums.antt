@@ -2,10 +2,9 @@
 use mathlib.Core.Path.{_≡_, refl}
 use mathlib.Core.Bool.{true}
 use Rattle.rules.specs.Tables.{alphabeticTable, numericTable}
-use Rattle.rules.specs.Classes.{rises}
 use Rattle.rules.proofs.Tables.{alphabetic-rises, numeric-rises}
 use Rattle.classes.specs.StrideTable.{strides, alphabeticIndex, numericIndex}
-use Rattle.classes.specs.Strides.{sums, boundsFrom, bounds, placesFrom, places, Form}
+use Rattle.classes.specs.Strides.{sums, boundsFrom, bounds, placesFrom, placesRise, Form}
 
 pub alphabetic-sums : bounds strides alphabeticIndex ≡ alphabeticTable
 unfolding strides alphabeticIndex sums boundsFrom alphabeticTable
@@ -15,11 +14,11 @@ pub numeric-sums : bounds strides numericIndex ≡ numericTable
 unfolding strides numericIndex sums boundsFrom numericTable
 numeric-sums = refl
 
-alphabetic-places : places strides alphabeticIndex ≡ true
+alphabetic-places : placesRise strides alphabeticIndex ≡ true
 unfolding strides alphabeticIndex placesFrom
 alphabetic-places = refl
 
-numeric-places : places strides numericIndex ≡ true
+numeric-places : placesRise strides numericIndex ≡ true
 unfolding strides numericIndex placesFrom
 numeric-places = refl
 

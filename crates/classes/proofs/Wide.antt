@@ -18,13 +18,12 @@ use Rattle.rules.proofs.Tables.{alphabetic-rises}
 between : (t : List ℕ) → rises t ≡ true → (k c : ℕ) → k + 1 < length t → getD t k 0 ≤ c → c < getD t (k + 1) 0 → inRanges t c ≡ odd (k + 1)
 between t r k c l a b =
     parity t c (k + 1) (record {
-      ordered = omega arith;
       inside = omega arith;
       below = λ m g. omega (arith, in-order t r m k (omega arith) (omega arith));
       above = λ m g g′. omega (arith, in-order t r (k + 1) m g g′);
     })
 
--- Range number n of Alphabetic, and the length of the table that has it: computed.
+-- Range number n of Alphabetic is from lo to hi, and the table is long enough to have it: computed.
 abbrev Range : ℕ → ℕ → ℕ → Type 0
 Range n lo hi = (getD alphabeticTable (2 * n) 0 ≡ lo) × (getD alphabeticTable (2 * n + 1) 0 ≡ hi) × (ltb (2 * n + 1) (length alphabeticTable) ≡ true)
 

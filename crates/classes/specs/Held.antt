@@ -1,4 +1,4 @@
--- A table that holds the classes. Whoever lends it knows no more of it.
+-- The table that is lent: the index of Alphabetic, then that of Nd, Nl and No. Whoever lends it knows no more of it.
 use Prim.Native.Nat.{ℕ}
 use mathlib.Core.Path.{_≡_}
 use mathlib.Core.List.{List, _++_}

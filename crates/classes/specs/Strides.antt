@@ -1,4 +1,4 @@
--- How the code holds a class: by strides, the ranges' lengths and the gaps between them in turn, and by an index of checkpoints, which are the
+-- How the code holds a class: by strides, which are the ranges' lengths and the gaps between them in turn, and by an index of checkpoints, the
 -- bounds that no stride leads to. What they sum to is the class's table.
 use Prim.Native.Nat.{ℕ, zero, suc, _+_, _-_, _/_, _%_, _≤_, _<_}
 use mathlib.Core.List.{List, [], _∷_, _++_}
@@ -8,7 +8,7 @@ use lib.ListN.{length, getD, take, drop}
 use lib.Dec.{leb, ltb}
 use Rattle.rules.specs.Classes.{rises}
 
--- Checkpoint i: its bound times 4,096, and its place, which is the number of strides before it.
+-- Checkpoint i: its bound times 4,096, and its place, which is the number of strides, of both classes, before its own.
 abbrev pub bound : List ℕ → ℕ → ℕ
 bound index i = getD index i 0 / 4096
 
@@ -43,14 +43,14 @@ boundsFrom strides index i (suc n) = sums (bound index i) (walk strides index i)
 abbrev pub bounds : List ℕ → List ℕ → List ℕ
 bounds strides index = boundsFrom strides index 0 (count index)
 
--- No place is before the last one, nor past the strides.
+-- No place is before the one of the checkpoint before it, nor past the strides.
 unfoldable pub placesFrom : List ℕ → List ℕ → ℕ → ℕ → Bool
 placesFrom strides index i zero = leb (place index i) (length strides)
 placesFrom strides index i (suc n) = leb (place index i) (place index (i + 1)) && placesFrom strides index (i + 1) n
 
 -- There is a checkpoint, and the places are in order.
-abbrev pub places : List ℕ → List ℕ → Bool
-places strides index = ltb 0 (count index) && placesFrom strides index 0 (count index)
+abbrev pub placesRise : List ℕ → List ℕ → Bool
+placesRise strides index = ltb 0 (count index) && placesFrom strides index 0 (count index)
 
 -- Checkpoint r is at most c, and the one that comes so many after it, if there is one, is past c.
 pub record Reached (index : List ℕ) (c by r : ℕ) : Type 0 where
@@ -67,5 +67,5 @@ pub record Passed (strides : List ℕ) (at end left r : ℕ) : Type 0 where
 
 -- Strides and an index that one can search in.
 pub record Form (strides index : List ℕ) : Type 0 where
-  pub placed : places strides index ≡ true
+  pub placed : placesRise strides index ≡ true
   pub rising : rises (bounds strides index) ≡ true

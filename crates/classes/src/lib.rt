@@ -1,8 +1,9 @@
 // The classes of characters, by their codes.
 //
 // The compiler keeps no array: one is copied to the stack wherever it is named. So a loop makes the table once, at its first
-// character past ASCII, and lends it to `is_alphanumeric_in`, which has no ASCII path of its own. The table is an index; the bulk
-// of the data, the strides, is a match, which is not copied. How the classes are held is known in this crate alone.
+// character that no comparison tells, and lends it to `is_alphanumeric_in`, which has no ASCII path of its own. The table is two
+// indexes, one after the other; the bulk of the data, the strides, is a match, which is not copied. How the classes are held is
+// known in this crate alone.
 mod ranges;
 pub mod tables;
 
@@ -10,7 +11,6 @@ use ranges::in_ranges;
 use tables::ALPHABETIC_END;
 use tables::CLASSES;
 use tables::ClassTable;
-use tables::NUMERIC_END;
 ghost use mathlib.Core.Path.{_≡_};
 ghost use mathlib.Core.Bool.{true};
 ghost use Rattle.rules.specs.Classes.{whiteSpace, alphabetic, alphanumeric, letter, digit};
@@ -81,7 +81,7 @@ pub fn is_alphanumeric_in(table: &ClassTable, c: u32) -> bool
     ensures { λ r. ⌜ r ≡ alphanumeric c ⌝ }
 {
     let t = &table[..];
-    is_alphabetic_in(table, c) || in_ranges(&t[ALPHABETIC_END..NUMERIC_END], c)
+    is_alphabetic_in(table, c) || in_ranges(&t[ALPHABETIC_END..], c)
 }
 
 fn is_letter(c: u32) -> bool

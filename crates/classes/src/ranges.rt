@@ -2,7 +2,6 @@
 use crate::tables::PLACES;
 use crate::tables::eight_strides;
 ghost use Prim.Native.Nat.{_≤_, _<_, min};
-ghost use lib.ListN.{length};
 ghost use mathlib.Core.Path.{_≡_};
 ghost use Rattle.rules.specs.Classes.{inRanges};
 ghost use Rattle.classes.specs.StrideTable.{strides};
@@ -47,7 +46,7 @@ fn lesser(a: usize, b: usize) -> usize
     if a < b { a } else { b }
 }
 
-// How far one comes over the strides from `at` to `end` with so much: by whole rows where it can be.
+// How far one comes over the strides from `at` to `end` that are in all at most `left`: by whole rows where it can be.
 fn pass(at: usize, end: usize, left: u32) -> usize
     requires { ⌜ (at ≤ end) × (end < 4096) ⌝ }
     ensures { λ r. ⌜ Passed strides at end left r ⌝ }
@@ -80,7 +79,7 @@ fn pass(at: usize, end: usize, left: u32) -> usize
     k
 }
 
-// `c` is in a range where the bounds that are at most `c` are odd in number: the checkpoints to `i`, and the strides to where one comes from it.
+// `c` is in a range where the bounds that are at most `c` are odd in number: the checkpoints to `i`, and one for each stride before `k`.
 pub(crate) fn in_ranges(index: &[u32], c: u32) -> bool
     requires { ⌜ Form strides (now index) ⌝ }
     ensures { λ r. ⌜ r ≡ inRanges (bounds strides (now (index .entry))) c ⌝ }

@@ -9,8 +9,6 @@ pub(crate) const PLACES: u32 = 4096;
 
 pub const ALPHABETIC_END: usize = 82;
 
-pub const NUMERIC_END: usize = 126;
-
 pub type ClassTable = [u32; 126];
 
 pub const CLASSES: ClassTable = [

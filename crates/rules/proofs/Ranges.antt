@@ -37,34 +37,11 @@ pub in-order : (t : List ℕ) → rises t ≡ true → (p q : ℕ) → p ≤ q �
 in-order t h p q pq ql =
     ⊎-elim (λ (e : p ≡ q). rw e (omega arith)) (λ l. omega (arith, apart t h p q l ql)) (eq-or-lt-of-le pq)
 
--- All before lo is at most c, and all from hi on is above it.
-pub record Bracket (t : List ℕ) (c lo hi : ℕ) : Type 0 where
-  pub ordered : lo ≤ hi
-  pub inside : hi ≤ length t
-  pub below : (k : ℕ) → k < lo → getD t k 0 ≤ c
-  pub above : (k : ℕ) → hi ≤ k → k < length t → c < getD t k 0
-
 -- n of the numbers are at most c, and they stand first.
-abbrev pub Bound : List ℕ → ℕ → ℕ → Type 0
-Bound t c n = Bracket t c n n
-
--- A test at m, between lo and hi, narrows the bracket of a table that rises.
-module _ {t : List ℕ} {c lo hi : ℕ} (r : rises t ≡ true) (b : Bracket t c lo hi) (m : ℕ) (lm : lo ≤ m) (mh : m < hi) where
-  pub raise : getD t m 0 ≤ c → Bracket t c (m + 1) hi
-  raise h = record {
-    ordered = omega arith;
-    inside = b .inside;
-    below = λ k l. omega (arith, in-order t r k m (omega arith) (omega arith));
-    above = b .above;
-  }
-
-  pub lower : c < getD t m 0 → Bracket t c lo m
-  lower h = record {
-    ordered = lm;
-    inside = omega arith;
-    below = b .below;
-    above = λ k l l′. omega (arith, in-order t r m k l l′);
-  }
+pub record Bound (t : List ℕ) (c n : ℕ) : Type 0 where
+  pub inside : n ≤ length t
+  pub below : (k : ℕ) → k < n → getD t k 0 ≤ c
+  pub above : (k : ℕ) → n ≤ k → k < length t → c < getD t k 0
 
 -- An odd number of bounds: past the start of a range, and not past its end.
 unfoldable pub odd : ℕ → Bool
@@ -76,7 +53,6 @@ odd-rest n = let e : suc (suc n) % 2 ≡ n % 2 = omega arith in rw e
 
 bound-rest : {a b : ℕ} {t : List ℕ} {c m n : ℕ} → m ≡ n - 2 → Bound (a ∷ b ∷ t) c n → Bound t c m
 bound-rest e h = record {
-  ordered = omega arith;
   inside = omega (arith, h .inside);
   below = λ k l. h .below (suc (suc k)) (omega arith);
   above = λ k l l′. h .above (suc (suc k)) (omega arith) (suc-le-suc (suc-le-suc l′));

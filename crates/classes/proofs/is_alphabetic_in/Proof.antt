@@ -1,6 +1,6 @@
 -- What the lent table holds first is Alphabetic's index, which sums to the definition's table, and the search in it answers.
 -- Assumes nothing.
-use mathlib.Core.Path.{sym, _∙_}
+use mathlib.Core.Path.{sym}
 use borrow.Author.Needs.{needs}
 use Rattle.rules.specs.Classes.{alphabetic}
 use Rattle.classes.proofs.Sums.{alphabetic-sums, alphabetic-form}

@@ -13,7 +13,7 @@ pub const TEXTS: [Text; 13] = [
     ("words", |r, size| fitted(String::new(), size, || format!("{} ", word(r, 10)))),
     ("one long word", |r, size| closed("a", size, "", || word(r, 10))),
     ("one word of Arabic letters after an ASCII one", |r, size| closed("a", size, "", || letters(r, 'ب'..='غ', 9))),
-    ("short words of Arabic letters after an ASCII one", |r, size| fitted(String::new(), size, || format!("a{} ", letters(r, 'ب'..='غ', 5)))),
+    ("short words of Arabic letters after an ASCII one", |r, size| short_words(size, || letters(r, 'ب'..='غ', 5))),
     ("operators", operators),
     ("numbers", |r, size| fitted(String::new(), size, || format!("{}{}", number(r), r.one_of(&[" ", ",", ", ", ")"])))),
     ("line comments", |r, size| fitted(String::new(), size, || format!("--{}\n", phrase(r, 16)))),
@@ -43,7 +43,7 @@ pub const REPEATED: [Text; 18] = [
     ("short here-documents", |r, size| fitted(String::new(), size, || short_here_document(r))),
 ];
 
-/// Words that begin with an ASCII letter and go on with characters that are looked up in the table of classes.
+/// Words that begin with an ASCII letter and go on with characters for which the table of classes is made.
 pub const LOOKED_UP: [Text; 14] = [
     ("short words of Devanagari letters", |r, size| short_words(size, || letters(r, 'ऄ'..='ह', 5))),
     ("short words of Georgian letters", |r, size| short_words(size, || letters(r, 'ა'..='ჰ', 5))),

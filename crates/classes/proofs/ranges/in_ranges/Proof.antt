@@ -1,14 +1,14 @@
 -- The bounds that are at most c stand first, by the laws of strides, and the parity of their number answers.
 -- Assumes nothing.
-use Prim.Native.Nat.{_+_, _-_, _≤_}
-use mathlib.Core.Path.{_≡_, sym}
+use Prim.Native.Nat.{_+_, _-_}
+use mathlib.Core.Path.{sym}
 use native.Mathlib.Omega.{arith}
 use borrow.Author.Needs.{needs}
 use denote.Ref.{now}
 use Rattle.rules.proofs.Ranges.{odd, parity}
 use Rattle.classes.specs.StrideTable.{strides}
 use Rattle.classes.specs.Strides.{place, bounds}
-use Rattle.classes.proofs.Strides.{some, begins, first-place, none-reached, reached}
+use Rattle.classes.proofs.Strides.{some, begins, begun, none-reached, reached}
 use Rattle.classes.proofs.ranges.in_ranges.Statement.{statement}
 use Rattle.classes.proofs.ranges.in_ranges.Tie as tie
 
@@ -29,14 +29,10 @@ pass-requires c κs =
     let i = c .before .before .before .go-on2 in
     (begins _ _ (c .before .before .before .before .before .before .before .before .pre) (i .result) (i .ensures .within), omega arith)
 
--- no stride before the class's first
-begun : (c : tie.After-pass) → place (now (c .before .before .before .before .before .before .before .before .before .args .index)) 0 ≤ c .pass .result
-begun c =
-    let i = c .before .before .before .before .go-on2 in
-    omega (arith, c .pass .ensures .from, first-place _ _ (c .before .before .before .before .before .before .before .before .before .pre) (i .result) (omega (arith, i .ensures .within)))
-
 sub-result : tie.Need-sub-result
-sub-result c = begun (c .before)
+sub-result c =
+    let i = c .before .before .before .before .before .go-on2 in
+    begun _ _ (c .before .before .before .before .before .before .before .before .before .before .pre) (i .result) (c .before .pass .result) (i .ensures) (c .before .pass .ensures)
 
 returns-2 : tie.Need-returns-2
 unfolding odd
