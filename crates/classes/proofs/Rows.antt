@@ -40,22 +40,22 @@ row-rest : (n i : ℕ) → packed (suc n) strides i / 256 ≡ packed n strides (
 unfolding packed
 row-rest n i = omega (arith, stride-small i)
 
--- A sum of bytes by its first one.
-pub next-byte : (n x : ℕ) → n < 8 → byteSum (8 - n) x ≡ x % 256 + byteSum (8 - (n + 1)) (x / 256)
+no-bytes : (n : ℕ) → byteSum n 0 ≡ 0
 unfolding byteSum
-next-byte n x l = let e : 8 - n ≡ suc (8 - (n + 1)) = omega arith in rw e refl
+no-bytes zero = refl
+no-bytes (suc n) = omega (arith, no-bytes n)
 
-pub no-byte : (x : ℕ) → byteSum 0 x ≡ 0
-unfolding byteSum
-no-byte x = refl
-
--- The bytes of a row are its strides.
-row-sum : (n i : ℕ) → total strides i + byteSum n (packed n strides i) ≡ total strides (i + n)
+-- The bytes of a row are its strides, and what is above them is none.
+row-sum : (n d i : ℕ) → total strides i + byteSum (n + d) (packed n strides i) ≡ total strides (i + n)
 unfolding byteSum packed
-row-sum zero i = let e : i + 0 ≡ i = omega arith in rw e (omega arith)
-row-sum (suc n) i =
+row-sum zero d i =
+    let e : i + 0 ≡ i = omega arith in
+    let z : 0 + d ≡ d = omega arith in
+    rw (e, z) (omega (arith, no-bytes d))
+row-sum (suc n) d i =
     let e : i + suc n ≡ i + 1 + n = omega arith in
-    rw (e, row-first n i, row-rest n i) (omega (arith, row-sum n (i + 1), total-stride strides i))
+    let z : suc n + d ≡ suc (n + d) = omega arith in
+    rw (e, z, row-first n i, row-rest n i) (omega (arith, row-sum n d (i + 1), total-stride strides i))
 
 -- A row without its first j strides.
 row-drop : (j n i : ℕ) → packed (j + n) strides i / 2 ^ (j * 8) ≡ packed n strides (i + j)
@@ -84,12 +84,13 @@ next-stride stop k l = let e : stop - k ≡ suc (stop - (k + 1)) = omega arith i
 pub next-rest : (stop k : ℕ) → k < stop → packed (stop - k) strides k / 256 ≡ packed (stop - (k + 1)) strides (k + 1)
 next-rest stop k l = let e : stop - k ≡ suc (stop - (k + 1)) = omega arith in rw e (row-rest (stop - (k + 1)) k)
 
--- A whole row.
-pub whole-row : (k : ℕ) → k % 8 ≡ 0 → total strides k + byteSum 8 (packed 8 strides (8 * (k / 8))) ≡ total strides (k / 8 * 8 + 8)
-whole-row k z =
-    let e : 8 * (k / 8) ≡ k = omega arith in
-    let f : k / 8 * 8 + 8 ≡ k + 8 = omega arith in
-    rw (e, f) (row-sum 8 k)
+-- The strides from k on to the end of its row in all.
+pub rest-sum : (k : ℕ) → total strides k + byteSum 8 (packed 8 strides (8 * (k / 8)) / 2 ^ (k % 8 * 8)) ≡ total strides (k / 8 * 8 + 8)
+rest-sum k =
+    let n = k / 8 * 8 + 8 - k in
+    let e : n + (8 - n) ≡ 8 = omega arith in
+    let f : k + n ≡ k / 8 * 8 + 8 = omega arith in
+    rw (row-from k) (rw (e, f) at (row-sum n (8 - n) k))
 
 -- A match on a row: in the last arm every row is ruled out, the last first.
 abbrev Missed : ℕ → ℕ → Type 0

@@ -25,19 +25,13 @@ fn go_on(index: &[u32], i: usize, by: usize, c: u32) -> usize
     i
 }
 
-// The eight strides of a row in all.
+// The eight bytes of a row in all: four sums of two in lanes of 16 bits, none of which runs over, and then the sum of these.
 fn row_sum(row: u64) -> u32
     ensures { λ r. ⌜ r ≡ byteSum 8 row ⌝ }
 {
-    let mut sum: u32 = 0;
-    let mut rest = row;
-    let mut n: usize = 0;
-    while n < 8 {
-        sum += (rest % 256) as u32;
-        rest /= 256;
-        n += 1;
-    }
-    sum
+    let twos = (row & 0x00FF_00FF_00FF_00FF) + (row / 256 & 0x00FF_00FF_00FF_00FF);
+    let fours = twos + twos / 0x1_0000_0000;
+    ((fours + fours / 0x1_0000) % 0x1_0000) as u32
 }
 
 fn lesser(a: usize, b: usize) -> usize
@@ -54,9 +48,9 @@ fn pass(at: usize, end: usize, left: u32) -> usize
     let mut k = at;
     let mut left = left;
     while k < end {
-        let row = eight_strides(k / 8);
+        let row = eight_strides(k / 8) >> (k % 8 * 8);
         let stop = k / 8 * 8 + 8;
-        if (k % 8 == 0) & (stop <= end) {
+        if stop <= end {
             let sum = row_sum(row);
             if sum <= left {
                 left -= sum;
@@ -64,7 +58,7 @@ fn pass(at: usize, end: usize, left: u32) -> usize
                 continue;
             }
         }
-        let mut rest = row >> (k % 8 * 8);
+        let mut rest = row;
         let last = lesser(stop, end);
         while k < last {
             let stride = (rest % 256) as u32;

@@ -4,14 +4,11 @@ use Prim.Native.Nat.{ℕ, _+_, _-_, _*_, _/_, _%_, _≤_, _<_}
 use mathlib.Core.Path.{_≡_}
 use native.Mathlib.Omega.{arith}
 use borrow.Author.Needs.{needs}
-use borrow.Author.Tests.{leb-true, eqb-true}
-use lib.Dec.{leb, eqb}
-use Rattle.rules.proofs.Tests.{and-both}
 use Rattle.runs.specs.Lanes.{packed}
 use Rattle.classes.specs.StrideTable.{strides}
 use Rattle.classes.specs.Strides.{total}
 use Rattle.classes.proofs.Strides.{total-stride}
-use Rattle.classes.proofs.Rows.{row-from, next-stride, next-rest, whole-row}
+use Rattle.classes.proofs.Rows.{row-from, next-stride, next-rest, rest-sum}
 use Rattle.classes.proofs.ranges.pass.Statement.{statement}
 use Rattle.classes.proofs.ranges.pass.Tie as tie
 
@@ -22,10 +19,10 @@ record Left (at end left k left′ : ℕ) : Type 0 where
   same : total strides k + left′ ≡ total strides at + left
 
 abbrev Inv-loop2 : tie.InvT-loop2
-Inv-loop2 at end left k₀ left₀ row stop last rest₀ k left' rest = Left at end left k left' × (k ≤ stop) × (rest ≡ packed (stop - k) strides k)
+Inv-loop2 at end left k₀ left₀ row stop rest₀ last k left' rest = Left at end left k left' × (k ≤ stop) × (rest ≡ packed (stop - k) strides k)
 
 abbrev μ-loop2 : tie.MeasureT-loop2
-μ-loop2 at end left k₀ left₀ row stop last rest₀ k left' rest = end - k
+μ-loop2 at end left k₀ left₀ row stop rest₀ last k left' rest = end - k
 
 abbrev Inv-loop : tie.InvT-loop
 Inv-loop at end left k₀ left₀ k left' = Left at end left k left'
@@ -45,11 +42,8 @@ loop-less c = omega arith
 loop-again : tie.Need-loop-again Inv-loop2 μ-loop2 Inv-loop μ-loop
 loop-again c =
     let l = c .before .before .before .before .before .loop in
-    let end = c .before .before .before .before .before .before .args .end in
-    let b = and-both (eqb (l .k % 8) 0) (leb (l .k / 8 * 8 + 8) end) (c .before .before .if1 .taken) in
     let s = rw (c .before .before .before .eight-strides .ensures) at (c .before .row-sum .ensures) in
-    let w = whole-row (l .k) (eqb-true (l .k % 8) 0 (b .0)) in
-    record { from = omega (arith, l .inv .from); to = leb-true (l .k / 8 * 8 + 8) end (b .1); same = omega (arith, l .inv .same, s, w) }
+    record { from = omega (arith, l .inv .from); to = c .before .before .if1 .taken; same = omega (arith, l .inv .same, s, rest-sum (l .k)) }
 
 loop2-holds : tie.Need-loop2-holds Inv-loop2 μ-loop2 Inv-loop μ-loop
 loop2-holds c =
@@ -111,12 +105,12 @@ pass-spec =
     loop-holds
     (λ c κs. search needs)
     (λ c. search needs)
+    (λ c. omega arith)
+    (λ c. search needs)
     add-stop
     (λ c κs. search needs)
     loop-less
     loop-again
-    (λ c. search needs)
-    (λ c. omega arith)
     (λ c κs. search needs)
     loop2-holds
     loop-less-2
