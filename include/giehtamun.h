@@ -1,6 +1,6 @@
 /* Giehtamun: ClickHouse's SQL tokenizer as C functions. Each function is proved to answer what its comment says; the inline helpers are
    plain C, and tested. Buffers that are lent to one call must not overlap one another where one of them is written.
-   Lists and masked copies take at most 38 KB of stack, and 824 KB where a text has many dollar signs that begin nothing; the others under 3 KB.
+   Lists and masked copies take at most 38 KB of stack, and 824 KB where a text has many dollar signs that begin nothing; the others under 4 KB.
 
    A text is any bytes. A token has a kind, a start and an end, both byte offsets into the text; it ends before the byte at its end. A
    packed list holds GIEHTAMUN_TOKEN_BYTES bytes a token: kind, start, end, each 32 bits, low byte first. A list's room is its length

@@ -1,5 +1,5 @@
 //! The stack that the crate's page promises, measured: a thread is lent a stack that is filled, and what it wrote over is counted. To ask for a
-//! thread with a small stack would not do: the C library gives it more, on Arm 128 KB.
+//! thread with a small stack would not do: the C library gives it more, on Arm at least 128 KB.
 use giehtamun::*;
 use std::ffi::{c_int, c_void};
 use std::ptr::null_mut;
@@ -64,10 +64,10 @@ fn a_text_that_is_looked_ahead_in_takes_824() {
 }
 
 #[test]
-fn all_else_takes_three() {
+fn all_else_takes_four() {
     let text = "SELECT 'a' FROM naïve, 一 😀\r\n".repeat(1_000).into_bytes();
     let damaged = [&text[..], b"\xE2\x80a\xE2\x80'\xF0\x9F"].concat();
-    take_at_most(3_000, &|| {
+    take_at_most(4_000, &|| {
         for text in [&text[..], &damaged] {
             assert!(steps(text).unwrap().count() > 1_000);
             place(text, text.len()).unwrap();

@@ -1,4 +1,4 @@
--- The bytes of a number are summed in four lanes of 16 bits. Assumes nothing.
+-- The eight lowest bytes of a number are summed in four lanes of 16 bits. Assumes nothing.
 use Prim.Native.Nat.{ℕ, _+_, _*_, _/_, _%_, _^_, _<_}
 use native.Mathlib.Omega.{arith}
 use lib.Bits.{bitAnd, and-block, and-mask}
@@ -8,7 +8,7 @@ use Rattle.classes.specs.Rows.{byteSum}
 abbrev lanes : ℕ → ℕ → ℕ → ℕ → ℕ
 lanes a b c d = ((d * 65536 + c) * 65536 + b) * 65536 + a
 
--- A mask that begins with a byte and without the next: the lowest lane, and those above.
+-- A mask whose lowest byte is all ones and whose next is zero: what it leaves of the lowest lane, and of those above.
 masked-lane : (x m : ℕ) → bitAnd x (m * 2 ^ 16 + 0xFF) ≡ bitAnd (x / 256 / 256) m * 65536 + x % 256
 masked-lane x m =
     let e : x ≡ x / 256 / 256 * 2 ^ 16 + x % 65536 = omega arith in

@@ -45,7 +45,7 @@ unfolding byteSum
 no-bytes zero = refl
 no-bytes (suc n) = omega (arith, no-bytes n)
 
--- The bytes of a row are its strides, and what is above them is none.
+-- The bytes of a row are its strides, and above them there is nothing.
 row-sum : (n d i : ℕ) → total strides i + byteSum (n + d) (packed n strides i) ≡ total strides (i + n)
 unfolding byteSum packed
 row-sum zero d i =

@@ -175,7 +175,7 @@ module _ (strides index : List ℕ) (f : Form strides index) where
   last-place : (i : ℕ) → i ≤ count index → place index i ≤ place index (count index)
   last-place i l = let e : 0 + count index ≡ count index = omega arith in rw e at (all-placed .until i zero-le (rw e l))
 
-  pub first-place : (i : ℕ) → i ≤ count index → place index 0 ≤ place index i
+  first-place : (i : ℕ) → i ≤ count index → place index 0 ≤ place index i
   first-place i l = all-placed .since i zero-le (let e : 0 + count index ≡ count index = omega arith in rw e l)
 
   -- The strides of a checkpoint end where the next one's begin.

@@ -1,4 +1,4 @@
--- Strides by rows of eight, in one number each.
+-- A row of strides is one number. What its bytes are in all.
 use Prim.Native.Nat.{ℕ, zero, suc, _+_, _/_, _%_}
 
 -- The n lowest bytes of a number in all.

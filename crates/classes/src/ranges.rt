@@ -40,7 +40,7 @@ fn lesser(a: usize, b: usize) -> usize
     if a < b { a } else { b }
 }
 
-// How far one comes over the strides from `at` to `end` that are in all at most `left`: by whole rows where it can be.
+// How far one comes over the strides from `at` to `end` that are in all at most `left`: by what is left of a row at once where that fits.
 fn pass(at: usize, end: usize, left: u32) -> usize
     requires { ⌜ (at ≤ end) × (end < 4096) ⌝ }
     ensures { λ r. ⌜ Passed strides at end left r ⌝ }

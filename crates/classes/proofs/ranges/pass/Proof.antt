@@ -1,6 +1,6 @@
 -- Both loops have one invariant: what is left, and the strides so far, are what there was. The inner one has the rest of a row besides.
 -- Assumes nothing.
-use Prim.Native.Nat.{ℕ, _+_, _-_, _*_, _/_, _%_, _≤_, _<_}
+use Prim.Native.Nat.{ℕ, _+_, _-_, _*_, _/_, _≤_, _<_}
 use mathlib.Core.Path.{_≡_}
 use native.Mathlib.Omega.{arith}
 use borrow.Author.Needs.{needs}
@@ -43,7 +43,7 @@ loop-again : tie.Need-loop-again Inv-loop2 μ-loop2 Inv-loop μ-loop
 loop-again c =
     let l = c .before .before .before .before .before .loop in
     let s = rw (c .before .before .before .eight-strides .ensures) at (c .before .row-sum .ensures) in
-    record { from = omega (arith, l .inv .from); to = c .before .before .if1 .taken; same = omega (arith, l .inv .same, s, rest-sum (l .k)) }
+    record { from = omega (arith, l .inv .from); to = omega (arith, c .before .before .if1 .taken); same = omega (arith, l .inv .same, s, rest-sum (l .k)) }
 
 loop2-holds : tie.Need-loop2-holds Inv-loop2 μ-loop2 Inv-loop μ-loop
 loop2-holds c =

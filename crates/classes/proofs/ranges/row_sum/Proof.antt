@@ -1,4 +1,4 @@
--- No sum is past 64 bits, and in all they are the bytes, by the law of lanes. Assumes nothing.
+-- No sum runs past 64 bits, and the last is that of the bytes, by the law of lanes. Assumes nothing.
 use Prim.Native.Nat.{ℕ, _+_, _/_, _≤_}
 use native.Mathlib.Omega.{arith}
 use lib.Bits.{bitAnd, and-le-r}
