@@ -7,7 +7,8 @@ use mathlib.Core.Logic.{⊎-elim}
 use mathlib.Core.Path.{_≡_, refl, sym, ap, _∙_}
 use mathlib.Core.List.{List, [], _∷_}
 use mathlib.Core.Bool.{Bool, true, _&&_}
-use lib.ListN.{length, getD, List·getD-eq-default}
+use lib.ListN.{length, getD, drop, List·getD-eq-default}
+use lib.Seq.{getD-drop}
 use lib.Dec.{leb, ltb}
 use borrow.Author.Tests.{leb-true, ltb-true}
 use Rattle.rules.proofs.Tests.{and-both}
@@ -91,6 +92,17 @@ rest-sum k =
     let e : n + (8 - n) ≡ 8 = omega arith in
     let f : k + n ≡ k / 8 * 8 + 8 = omega arith in
     rw (row-from k) (rw (e, f) at (row-sum n (8 - n) k))
+
+packed-drop : (n i j : ℕ) → packed n (drop i strides) j ≡ packed n strides (i + j)
+unfolding packed
+packed-drop zero i j = refl
+packed-drop (suc n) i j =
+    let e : i + (j + 1) ≡ i + j + 1 = omega arith in
+    rw (getD-drop i strides j 0, packed-drop n i (j + 1), e) refl
+
+-- A row by the strides from there on, which an arm of the match computes once.
+pub row-at : (row : ℕ) → packed 8 (drop (8 * row) strides) 0 ≡ packed 8 strides (8 * row)
+row-at row = let e : 8 * row + 0 ≡ 8 * row = omega arith in rw e at (packed-drop 8 (8 * row) 0)
 
 -- A match on a row: in the last arm every row is ruled out, the last first.
 abbrev Missed : ℕ → ℕ → Type 0

@@ -1,14 +1,15 @@
 -- By the arm. Made by tools/tables. Assumes nothing.
 use Prim.Native.Nat.{ℕ, _*_}
 use mathlib.Core.Path.{_≡_, refl, sym, ap, _∙_}
+use lib.ListN.{drop}
 use Rattle.runs.specs.Lanes.{packed}
 use Rattle.classes.specs.StrideTable.{strides}
-use Rattle.classes.proofs.Rows.{past-rows}
+use Rattle.classes.proofs.Rows.{row-at, past-rows}
 use Rattle.classes.proofs.tables.eight_strides.Statement.{statement}
 use Rattle.classes.proofs.tables.eight_strides.Tie as tie
 
-arm : {row k r : ℕ} → row ≡ k → r ≡ packed 8 strides (8 * k) → r ≡ packed 8 strides (8 * row)
-arm e f = f ∙ ap (λ (n : ℕ). packed 8 strides (8 * n)) (sym e)
+arm : {row k r : ℕ} → row ≡ k → r ≡ packed 8 (drop (8 * k) strides) 0 → r ≡ packed 8 strides (8 * row)
+arm e f = f ∙ row-at _ ∙ ap (λ (n : ℕ). packed 8 strides (8 * n)) (sym e)
 
 pub eight-strides-spec : {M : Type 1} → statement M
 unfolding strides packed
