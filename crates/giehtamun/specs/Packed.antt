@@ -3,6 +3,7 @@ use Prim.Native.Nat.{ℕ, _+_, _*_, _^_}
 use mathlib.Core.Path.{_≡_}
 use mathlib.Core.List.{List}
 use Rattle.rules.specs.Answers.{Written, Stepped, Part, Placed}
+use Rattle.rules.specs.Statements.{First}
 
 -- The number in bits 56 to 63, a small extra number in bits 48 to 55, the value in bits 0 to 47.
 abbrev pub packed : ℕ → ℕ → ℕ → ℕ
@@ -27,3 +28,11 @@ packedHalves number first second = number * 2 ^ 56 + first * 2 ^ 28 + second
 -- A place's answer: line and column. Its value is the offset, which the caller has.
 abbrev pub packedPlace : Placed → ℕ
 packedPlace p = packedHalves (p .number) (p .place .line) (p .place .column)
+
+-- A first statement's answer: the tokens read and the end.
+abbrev pub packedFirst : First → ℕ
+packedFirst f = packedHalves (f .number) (f .statement .tokens) (f .statement .end)
+
+-- And that of its text, as a part's: the bytes that stand before its delimiter.
+abbrev pub packedText : First → ℕ
+packedText f = packed (f .number) 0 (f .statement .bytes)

@@ -7,12 +7,14 @@ use rules::answer::Answer;
 use spans::parts::shown_text_answer;
 use spans::parts::token_text_answer;
 use spans::places::place;
+use statements::first_statement;
 use steps::step;
 ghost use mathlib.Core.Path.{_≡_};
 ghost use Rattle.rules.specs.Widths.{Fits, FitsExtra, FitsHalves};
 ghost use Rattle.rules.specs.Answers.{listing, listingUpTo, step as stepAt, tokenText, shownText, maskedCopy, placeAt};
+ghost use Rattle.rules.specs.Statements.{firstStatement};
 ghost use Rattle.rules.specs.Cases.{numberOf, valueOf};
-ghost use Rattle.giehtamun.specs.Packed.{packed, packedWritten, packedStep, packedPart, packedHalves, packedPlace};
+ghost use Rattle.giehtamun.specs.Packed.{packed, packedWritten, packedStep, packedPart, packedHalves, packedPlace, packedFirst, packedText};
 
 fn pack(number: u32, extra: u32, value: usize) -> u64
     requires { ⌜ FitsExtra number extra value ⌝ }
@@ -99,4 +101,20 @@ pub extern "C" fn giehtamun_place(text: &[u8], offset: usize) -> u64
 {
     let p = place(text, offset);
     pack_halves(p.number, p.line, p.column)
+}
+
+#[no_mangle]
+pub extern "C" fn giehtamun_first_statement(text: &[u8]) -> u64
+    ensures { λ r. ⌜ r ≡ packedFirst (firstStatement (now (text .entry))) ⌝ }
+{
+    let f = first_statement(text);
+    pack_halves(f.number, f.tokens, f.end)
+}
+
+#[no_mangle]
+pub extern "C" fn giehtamun_statement_text(text: &[u8]) -> u64
+    ensures { λ r. ⌜ r ≡ packedText (firstStatement (now (text .entry))) ⌝ }
+{
+    let f = first_statement(text);
+    pack(f.number, 0, f.bytes)
 }

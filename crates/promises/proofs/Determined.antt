@@ -28,6 +28,7 @@ use Rattle.forms.proofs.records as records
 use Rattle.masking.proofs.copy as copy
 use Rattle.spans.proofs.parts as parts
 use Rattle.spans.proofs.places as places
+use Rattle.statements.proofs as statements
 use Rattle.giehtamun.proofs as giehtamun
 use Rattle.promises.specs.Determined.{Determined, DeterminedAs}
 
@@ -234,6 +235,9 @@ shown-text κs a r s u v p q = (same p q, refl)
 pub place : Determined places.place.ended places.place.Reads.Learnt
 place κs a r s u v p q = (same p q, refl)
 
+pub first-statement : Determined statements.first_statement.ended statements.first_statement.Reads.Learnt
+first-statement κs a r s u v p q = (same p q, refl)
+
 pub giehtamun-list : Determined giehtamun.giehtamun_list.ended giehtamun.giehtamun_list.Reads.Learnt
 giehtamun-list κs a r s u v p q = lent (λ l. (tt, (tt, (l, tt)))) (both p q)
 
@@ -254,3 +258,9 @@ giehtamun-shown-text κs a r s u v p q = (same p q, refl)
 
 pub giehtamun-place : Determined giehtamun.giehtamun_place.ended giehtamun.giehtamun_place.Reads.Learnt
 giehtamun-place κs a r s u v p q = (same p q, refl)
+
+pub giehtamun-first-statement : Determined giehtamun.giehtamun_first_statement.ended giehtamun.giehtamun_first_statement.Reads.Learnt
+giehtamun-first-statement κs a r s u v p q = (same p q, refl)
+
+pub giehtamun-statement-text : Determined giehtamun.giehtamun_statement_text.ended giehtamun.giehtamun_statement_text.Reads.Learnt
+giehtamun-statement-text κs a r s u v p q = (same p q, refl)

@@ -15,6 +15,7 @@ use Rattle.rules.specs.Widths.{numberEnd, Fits, FitsExtra, FitsHalves}
 use Rattle.rules.specs.Tokens.{Token, tokens, afterDotAt, tokenAt}
 use Rattle.rules.specs.Listing.{lean, only, leanKeeps, leanUpToKeeps, startsBefore, wholeList, listUpTo, room}
 use Rattle.rules.specs.Answers.{Done, TooLong, NotUtf8, OtherLength, NoPart, tooLong, beyond, noPart, noMode, Written, refused, stored, tooLongList, listing, listingUpTo, step, Part, refusedPart, partOf, tokenText, shownText, maskedCopy, Placed, placeAt}
+use Rattle.rules.specs.Statements.{First, firstIn, firstStatement}
 use Rattle.rules.proofs.Tests.{cond-ind}
 use Rattle.rules.proofs.Decoding.{valid-most}
 use Rattle.rules.proofs.Edges.{tiles, tiles-count}
@@ -23,6 +24,7 @@ use Rattle.rules.proofs.Stepping.{step-too-long, step-beyond, step-done
 use Rattle.rules.proofs.KnownKinds.{kind-known}
 use Rattle.rules.proofs.Parts.{or-none, part-inside}
 use Rattle.rules.proofs.Places.{place-most}
+use Rattle.rules.proofs.Statements.{first-lies}
 
 abbrev FitsW : Written → Type 0
 FitsW w = Fits (w .number) (w .value)
@@ -116,6 +118,19 @@ fits-place text offset =
     let m = ltb-false (length text) offset f in
     let p = place-most text offset in
     (omega arith, omega arith, omega arith)))
+
+-- Both numbers of a first statement, and the bytes before its delimiter.
+abbrev FitsFirst : First → Type 0
+FitsFirst f = FitsHalves (f .number) (f .statement .tokens) (f .statement .end) × Fits (f .number) (f .statement .bytes)
+
+pub fits-first : (text : List ℕ) → FitsFirst (firstStatement text)
+unfolding firstStatement
+fits-first text =
+    cond-ind FitsFirst (tooLong text) _ _ (λ e. ((omega arith, omega arith, omega arith), (omega arith, omega arith)))
+    (λ e.
+    let l = ltb-false maxQuerySize (length text) e in
+    let f = first-lies 0 (tokens text) (length text) (tiles text) in
+    ((omega arith, omega (arith, l, f .few, f .high), omega (arith, l, f .high)), (omega arith, omega (arith, l, f .middle, f .high))))
 
 pub fits-step : (s : List ℕ) (i : ℕ) → FitsExtra (step s i .number) (step s i .token .kind) (step s i .value)
 unfolding tokenAt

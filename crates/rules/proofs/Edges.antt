@@ -119,6 +119,10 @@ tokens-moved d k at zero (b ∷ s) =
     (ap (λ (n : ℕ). tokensAfter (isDot b) n (l .size - 1) s) (sym (add-suc k at)) ∙ tokens-moved (isDot b) k (suc at) (l .size - 1) s)
 tokens-moved d k at (suc skip) (b ∷ s) = ap (λ (n : ℕ). tokensAfter (isDot b) n skip s) (sym (add-suc k at)) ∙ tokens-moved (isDot b) k (suc at) skip s
 
+-- The tokens of a text that stands k bytes further on.
+pub from-moved : (d : Bool) (k : ℕ) (s : List ℕ) → tokensAfter d k 0 s ≡ map (moved k) (tokensAfter d 0 0 s)
+from-moved d k s = ap (λ (n : ℕ). tokensAfter d n 0 s) (sym (add-zero k)) ∙ tokens-moved d k 0 0 s
+
 -- Two texts that are the same from an edge on, after a dot or not in both, have the same tokens from there on, each moved to its place.
 pub record SameAfter (a b : List ℕ) (i j : ℕ) : Type 0 where
   pub shared : List Token
@@ -129,9 +133,6 @@ pub same-after : (a b : List ℕ) (i j : ℕ) → drop i a ≡ drop j b → afte
 unfolding tokensFrom
 same-after a b i j e f = record {
   shared = tokensAfter (afterDotAt a i) 0 0 (drop i a);
-  left = from (afterDotAt a i) i (drop i a);
-  right = from (afterDotAt b j) j (drop j b) ∙ ap₂ (λ (d : Bool) (s : List ℕ). map (moved j) (tokensAfter d 0 0 s)) (sym f) (sym e);
+  left = from-moved (afterDotAt a i) i (drop i a);
+  right = from-moved (afterDotAt b j) j (drop j b) ∙ ap₂ (λ (d : Bool) (s : List ℕ). map (moved j) (tokensAfter d 0 0 s)) (sym f) (sym e);
 }
-  where
-    from : (d : Bool) (k : ℕ) (s : List ℕ) → tokensAfter d k 0 s ≡ map (moved k) (tokensAfter d 0 0 s)
-    from d k s = ap (λ (n : ℕ). tokensAfter d n 0 s) (sym (add-zero k)) ∙ tokens-moved d k 0 0 s

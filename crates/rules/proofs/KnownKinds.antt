@@ -1,10 +1,11 @@
--- No kind of a token has a number above the last kind's. Assumes nothing.
+-- No kind of a token has a number above the last kind's, and only an operator delimits a statement. Assumes nothing.
 use Prim.Native.Nat.{ℕ, zero, suc, _+_, _≤_}
-use mathlib.Core.Path.{_≡_, refl}
+use mathlib.Core.Path.{_≡_, refl, sym, subst}
 use mathlib.Core.List.{List, [], _∷_}
 use mathlib.Core.Option.{Option, some, none}
-use mathlib.Core.Bool.{Bool, true, false, cond}
-use lib.Dec.{leb}
+use mathlib.Core.Logic.{_⊎_, inl, inr}
+use mathlib.Core.Bool.{Bool, true, false, not, cond, _&&_}
+use lib.Dec.{leb, eqb}
 use lib.ListN.{take, drop}
 use Rattle.rules.specs.Utf8.{Char, width, chars}
 use Rattle.rules.specs.Kinds.{Number, BareWord, Spaceship, ErrorWrongNumber, ErrorMaxQuerySizeExceeded}
@@ -13,19 +14,31 @@ use Rattle.rules.specs.Operators.{single, pair, spaceship, operator}
 use Rattle.rules.specs.Dollars.{hereDoc, dollarLexeme}
 use Rattle.rules.specs.Numbers.{numberWord, startsSuffix, allChars, figures, closing, number}
 use Rattle.rules.specs.Tokens.{Rule, spaces, dashes, slashStar, numeral, letters, quoted, doubleQuoted, backQuoted, curlyQuoted, curlyDoubleQuoted, dollars, others, rule, read, lexemeOf, lexeme}
-use Rattle.rules.proofs.Tests.{leb-true}
+use Rattle.rules.specs.Statements.{delimiter}
+use Rattle.rules.proofs.Tests.{leb-true, and-left}
 
-abbrev known : ℕ → Bool
+abbrev pub known : ℕ → Bool
 known k = leb k ErrorMaxQuerySizeExceeded
 
 abbrev Known : Lexeme → Type 0
 Known l = known (l .kind) ≡ true
 
+-- a known kind that delimits nothing
+abbrev pub usual : ℕ → Bool
+usual k = known k && not (delimiter k)
+
+abbrev Usual : Lexeme → Type 0
+Usual l = usual (l .kind) ≡ true
+
 either : (b : Bool) (x y n : ℕ) → leb (cond b x y) n ≡ cond b (leb x n) (leb y n)
 either true x y n = refl
 either false x y n = refl
 
-same : (b c : Bool) → cond b c c ≡ c
+pub either-is : (b : Bool) (x y n : ℕ) → eqb (cond b x y) n ≡ cond b (eqb x n) (eqb y n)
+either-is true x y n = refl
+either-is false x y n = refl
+
+pub same : (b c : Bool) → cond b c c ≡ c
 same true c = refl
 same false c = refl
 
@@ -37,9 +50,6 @@ pair-kind : (a b : ℕ) → known (pair a b) ≡ true
 unfolding pair
 pair-kind a b = simp (either, same)
 
-enclosed-kind : (b : Bool) (x y : ℕ) → known x ≡ true → known y ≡ true → known (cond b x y) ≡ true
-enclosed-kind b x y e f = rw (either b x y ErrorMaxQuerySizeExceeded, e, f) (same b true)
-
 operator-kind : (c : Char) (cs : List Char) → Known (operator c cs)
 unfolding operator
 operator-kind c cs = go (spaceship (c .code) (first cs) (first (drop 1 cs))) (pair (c .code) (first cs)) (pair-kind (c .code) (first cs))
@@ -49,40 +59,49 @@ operator-kind c cs = go (spaceship (c .code) (first cs) (first (drop 1 cs))) (pa
     go false zero e = single-kind (c .code)
     go false (suc k) e = e
 
-closing-kind : (n : ℕ) (cs : List Char) → Known (closing n cs)
+closing-kind : (n : ℕ) (cs : List Char) → Usual (closing n cs)
 unfolding closing
 closing-kind n cs = go (startsSuffix (first (drop n cs)))
   where
-    go : (b : Bool) → Known (elim b [ false ↦ is Number n | true ↦ is (cond (allChars numberWord (take n cs)) BareWord ErrorWrongNumber) (n + run numberWord (drop n cs)) ])
+    go : (b : Bool) → Usual (elim b [ false ↦ is Number n | true ↦ is (cond (allChars numberWord (take n cs)) BareWord ErrorWrongNumber) (n + run numberWord (drop n cs)) ])
     go false = refl
-    go true = enclosed-kind (allChars numberWord (take n cs)) BareWord ErrorWrongNumber refl refl
+    go true = simp (either, either-is, same)
 
-number-kind : (d : Bool) (cs : List Char) → Known (number d cs)
+number-kind : (d : Bool) (cs : List Char) → Usual (number d cs)
 unfolding number
 number-kind d cs = go (figures d cs .well)
   where
-    go : (b : Bool) → Known (elim b [ true ↦ closing (figures d cs .size) cs | false ↦ is ErrorWrongNumber (figures d cs .size) ])
+    go : (b : Bool) → Usual (elim b [ true ↦ closing (figures d cs .size) cs | false ↦ is ErrorWrongNumber (figures d cs .size) ])
     go true = closing-kind (figures d cs .size) cs
     go false = refl
 
-dollar-kind : (n : Option ℕ) → Known (dollarLexeme n)
+dollar-kind : (n : Option ℕ) → Usual (dollarLexeme n)
 dollar-kind none = refl
 dollar-kind (some n) = refl
 
+-- each rule but that of the operators
+pub read-usual : (r : Rule) (d : Bool) (c : Char) (cs : List Char) → Usual (read r d c cs) ⊎ (r ≡ others)
+unfolding read
+read-usual spaces d c cs = inl refl
+read-usual dashes d c cs = inl refl
+read-usual slashStar d c cs = inl (simp (either, either-is, same))
+read-usual numeral d c cs = inl (number-kind d (c ∷ cs))
+read-usual letters d c cs = inl refl
+read-usual quoted d c cs = inl (simp (either, either-is, same))
+read-usual doubleQuoted d c cs = inl (simp (either, either-is, same))
+read-usual backQuoted d c cs = inl (simp (either, either-is, same))
+read-usual curlyQuoted d c cs = inl (simp (either, either-is, same))
+read-usual curlyDoubleQuoted d c cs = inl (simp (either, either-is, same))
+read-usual dollars d c cs = inl (dollar-kind (hereDoc cs))
+read-usual others d c cs = inr refl
+
 read-kind : (r : Rule) (d : Bool) (c : Char) (cs : List Char) → Known (read r d c cs)
 unfolding read
-read-kind spaces d c cs = refl
-read-kind dashes d c cs = refl
-read-kind slashStar d c cs = simp (either, same)
-read-kind numeral d c cs = number-kind d (c ∷ cs)
-read-kind letters d c cs = refl
-read-kind quoted d c cs = simp (either, same)
-read-kind doubleQuoted d c cs = simp (either, same)
-read-kind backQuoted d c cs = simp (either, same)
-read-kind curlyQuoted d c cs = simp (either, same)
-read-kind curlyDoubleQuoted d c cs = simp (either, same)
-read-kind dollars d c cs = dollar-kind (hereDoc cs)
-read-kind others d c cs = operator-kind c cs
+read-kind r d c cs = go (read-usual r d c cs)
+  where
+    go : Usual (read r d c cs) ⊎ (r ≡ others) → Known (read r d c cs)
+    go (inl u) = and-left (known (read r d c cs .kind)) (not (delimiter (read r d c cs .kind))) u
+    go (inr e) = subst (λ (r : Rule). Known (read r d c cs)) (sym e) (operator-kind c cs)
 
 of-chars : (d : Bool) (cs : List Char) → Known (lexemeOf d cs)
 unfolding lexemeOf

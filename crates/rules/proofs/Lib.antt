@@ -37,7 +37,7 @@ pub mod NumberBytes
 pub mod Visible
 pub mod Relex
 pub mod Masked
--- Demand 2: the first token, the kinds, the edges, a step, the lists, the places, how large answers get, and the bench sheet.
+-- Demand 2: the first token, the kinds, the edges, a step, the lists, the places, the statements, how large answers get, and the bench sheet.
 pub mod FirstToken
 pub mod KnownKinds
 pub mod Edges
@@ -52,9 +52,13 @@ pub mod PlaceCounts
 pub mod OldPlaces
 pub mod PlaceSums
 pub mod TokenEdges
+pub mod Delimiters
+pub mod Statements
+pub mod NextStatements
 pub mod Bounds
 pub mod Cases
 pub mod Plans
 pub mod Bench
 pub mod PlaceCases
 pub mod UnitCases
+pub mod StatementCases

@@ -17,8 +17,10 @@ pub mod Listing
 pub mod Masking
 pub mod Places
 pub mod Answers
+pub mod Statements
 pub mod Records
 pub mod Cases
 pub mod Bench
 pub mod PlaceCases
 pub mod UnitCases
+pub mod StatementCases
