@@ -1,13 +1,15 @@
 /* Giehtamun: ClickHouse's SQL tokenizer as C functions. Each function is proved to answer what its comment says; the inline helpers are
    plain C, and tested. Buffers that are lent to one call must not overlap one another where one of them is written.
-   Lists and masked copies take at most 38 KB of stack, and 824 KB where a text has many dollar signs that begin nothing; the others under 4 KB.
+   Lists, masked copies and first statements take at most 38 KB of stack, and 824 KB where a text has many dollar signs that begin nothing; the
+   others under 4 KB.
 
    A text is any bytes. A token has a kind, a start and an end, both byte offsets into the text; it ends before the byte at its end. A
    packed list holds GIEHTAMUN_TOKEN_BYTES bytes a token: kind, start, end, each 32 bits, low byte first. A list's room is its length
    divided by that, rounded down.
 
    An answer is one number of 64 bits, which giehtamun_number, giehtamun_kind and giehtamun_value take apart. That of giehtamun_place
-   is taken apart by giehtamun_number, giehtamun_line and giehtamun_column. */
+   is taken apart by giehtamun_number, giehtamun_line and giehtamun_column; that of giehtamun_first_statement by giehtamun_number,
+   giehtamun_statement_tokens and giehtamun_statement_end. */
 #ifndef GIEHTAMUN_H
 #define GIEHTAMUN_H
 
@@ -98,12 +100,12 @@ static inline uint32_t giehtamun_number(uint64_t answer) {
     return (uint32_t)(answer >> 56);
 }
 
-/* The kind in a step's answer, 0 in any other: bits 48 to 55. Not for a place. */
+/* The kind in a step's answer, 0 in any other: bits 48 to 55. Not for a place or a first statement. */
 static inline uint32_t giehtamun_kind(uint64_t answer) {
     return (uint32_t)(answer >> 48) & 0xFF;
 }
 
-/* The value of an answer: bits 0 to 47. Not for a place. */
+/* The value of an answer: bits 0 to 47. Not for a place or a first statement. */
 static inline uint64_t giehtamun_value(uint64_t answer) {
     return answer & 0xFFFFFFFFFFFF;
 }
@@ -115,6 +117,16 @@ static inline uint32_t giehtamun_line(uint64_t answer) {
 
 /* The column in a place's answer, counted from 0 in UTF-16 code units: bits 0 to 27. */
 static inline uint32_t giehtamun_column(uint64_t answer) {
+    return (uint32_t)answer & 0xFFFFFFF;
+}
+
+/* The tokens read in a first statement's answer, its delimiter among them: bits 28 to 55. */
+static inline uint32_t giehtamun_statement_tokens(uint64_t answer) {
+    return (uint32_t)(answer >> 28) & 0xFFFFFFF;
+}
+
+/* The end in a first statement's answer, where the next statement begins: bits 0 to 27. */
+static inline uint32_t giehtamun_statement_end(uint64_t answer) {
     return (uint32_t)answer & 0xFFFFFFF;
 }
 
@@ -177,6 +189,21 @@ uint64_t giehtamun_shown_text(const uint8_t *text, size_t text_len, const uint8_
    character of one unit here too, as an editor's one replacement mark is.
    Answers 0, or refuses with 1 or 4, line 0 and column 0. */
 uint64_t giehtamun_place(const uint8_t *text, size_t text_len, size_t offset);
+
+/* The first statement of the text: where it ends, and the tokens read. It ends with the first token of kind Semicolon or VerticalDelimiter (a
+   backslash with one G or g), or with the text if there is none. A delimiter inside a string, a quoted identifier, a comment or a
+   here-document is no token, and ends nothing. The tokens read are the place of that delimiter in the text's full list, counted from one, or the
+   list's length.
+   Reading stops there, so that the call costs what the statement does, however long the text is; only a dollar sign in it may have the rest of
+   the text searched. Neither the statement nor the rest is tested for UTF-8: the tokens are those of giehtamun_step, from step to step.
+   The same call on the rest, with text + end and text_len - end, gives the next statement of the text, and so on until nothing is left.
+   Answers 0, or refuses with 1, end 0 and no tokens. */
+uint64_t giehtamun_first_statement(const uint8_t *text, size_t text_len);
+
+/* The text of the first statement: what stands before its delimiter, or the whole text if there is none. The host takes that part itself, from
+   `text` on. The last byte before giehtamun_statement_end does not tell it: a semicolon there may belong to a comment.
+   Answers 0 and the part's length, or refuses with 1; a refused part is empty. */
+uint64_t giehtamun_statement_text(const uint8_t *text, size_t text_len);
 
 #ifdef __cplusplus
 }

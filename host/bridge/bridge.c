@@ -21,6 +21,8 @@ u64 giehtamun_mask(const u8 *text, u64 len, u8 *copy, u64 lent);
 u64 giehtamun_token_text(const u8 *text, u64 len, u64 start, u64 end);
 u64 giehtamun_shown_text(const u8 *text, u64 len, const u8 *copy, u64 lent, u32 kind, u64 start, u64 end);
 u64 giehtamun_place(const u8 *text, u64 len, u64 offset);
+u64 giehtamun_first_statement(const u8 *text, u64 len);
+u64 giehtamun_statement_text(const u8 *text, u64 len);
 
 /* The first `lent` bytes of the memory are lent to the function. */
 struct head {
@@ -127,6 +129,12 @@ int main(void) {
             break;
         case 13:
             answer = giehtamun_place(text, h.len, h.number);
+            break;
+        case 14:
+            answer = giehtamun_first_statement(text, h.len);
+            break;
+        case 15:
+            answer = giehtamun_statement_text(text, h.len);
             break;
         default:
             return 3;

@@ -23,6 +23,14 @@ pub const TOKEN_BYTES: usize = 12;
 /// A token as document 01 has it: kind, start, end.
 pub type Triple = (u32, u32, u32);
 
+/// A text's first statement as document 02 has it (#102): the tokens read, the bytes before its delimiter, and where that ends.
+#[derive(Clone, Copy, Debug, PartialEq)]
+pub struct Statement {
+    pub tokens: usize,
+    pub before: usize,
+    pub end: usize,
+}
+
 /// A call: which function, its numbers, its text, and a piece of memory. The function is lent the first `lent` bytes of the memory; that
 /// the others stay as they were shows that it writes to nothing else. Shown text is lent them as the copy, to read, and its kind is the mode.
 #[derive(Clone, Debug)]
@@ -51,6 +59,8 @@ pub enum Op {
     TokenText = 11,
     ShownText = 12,
     Place = 13,
+    FirstStatement = 14,
+    StatementText = 15,
 }
 
 impl<'a> Call<'a> {

@@ -15,6 +15,8 @@ extern "C" {
     fn giehtamun_token_text(text: *const u8, len: usize, start: usize, end: usize) -> u64;
     fn giehtamun_shown_text(text: *const u8, len: usize, copy: *const u8, lent: usize, kind: u32, start: usize, end: usize) -> u64;
     fn giehtamun_place(text: *const u8, len: usize, offset: usize) -> u64;
+    fn giehtamun_first_statement(text: *const u8, len: usize) -> u64;
+    fn giehtamun_statement_text(text: *const u8, len: usize) -> u64;
 }
 
 // Safety, in each function below: the C function reads and writes the slices that it is lent and nothing else, as its Rattle source says.
@@ -44,6 +46,16 @@ pub fn place(text: &[u8], offset: usize) -> u64 {
     unsafe { giehtamun_place(text.as_ptr(), text.len(), offset) }
 }
 
+#[inline]
+pub fn first_statement(text: &[u8]) -> u64 {
+    unsafe { giehtamun_first_statement(text.as_ptr(), text.len()) }
+}
+
+#[inline]
+pub fn statement_text(text: &[u8]) -> u64 {
+    unsafe { giehtamun_statement_text(text.as_ptr(), text.len()) }
+}
+
 pub fn call(c: &Call) -> Answer {
     let mut memory = c.memory.clone();
     let (number, end, lent) = (c.number as usize, c.end as usize, &mut memory[..c.lent]);
@@ -62,6 +74,8 @@ pub fn call(c: &Call) -> Answer {
         Op::TokenText => unsafe { giehtamun_token_text(text, len, number, end) },
         Op::ShownText => unsafe { giehtamun_shown_text(text, len, lent.as_ptr(), lent.len(), c.mode, number, end) },
         Op::Place => place(c.text, number),
+        Op::FirstStatement => first_statement(c.text),
+        Op::StatementText => statement_text(c.text),
     };
     Answer { answer, memory }
 }

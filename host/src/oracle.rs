@@ -2,7 +2,7 @@
 use crate::lexer::token::Token;
 use crate::lexer::tokenizer::{tokenize, tokenize_up_to, tokenize_with_whitespace, Tokenizer};
 use crate::parser::syntax_kind::SyntaxKind as K;
-use crate::{Call, Op, Triple};
+use crate::{Call, Op, Statement, Triple};
 
 /// Document 01's numbers start at 1, in this order.
 pub const KINDS: [K; 48] = [
@@ -99,4 +99,20 @@ pub fn steps(text: &str) -> Vec<Triple> {
         tokens.push(t.next_token());
     }
     triples(tokens)
+}
+
+/// The first statement, by a call for each token up to its delimiter, and by none after that.
+pub fn first_statement(text: &str) -> Statement {
+    let mut t = Tokenizer::new(text);
+    let mut tokens = 0;
+    loop {
+        let token = t.next_token();
+        match token.kind {
+            K::EndOfStream => return Statement { tokens, before: text.len(), end: text.len() },
+            K::Semicolon | K::VerticalDelimiter => {
+                return Statement { tokens: tokens + 1, before: token.start as usize, end: token.end as usize };
+            }
+            _ => tokens += 1,
+        }
+    }
 }

@@ -1,7 +1,7 @@
 //! A second reading of document 01, from its text alone: the lexical rules over any bytes, and what the C functions must answer and leave. Places and
-//! broken characters are as document 02 has mended them (#103, #105). Sentences are numbered as in docs/DECISIONS.md: 4.1 is the first sentence of
-//! rule 4.
-use crate::{Answer, Call, Op, Triple, MAX_QUERY_SIZE, TOKEN_BYTES};
+//! broken characters are as document 02 has mended them (#103, #105), and the first statement is its own (#102). Sentences are numbered as in
+//! docs/DECISIONS.md: 4.1 is the first sentence of rule 4.
+use crate::{Answer, Call, Op, Statement, Triple, MAX_QUERY_SIZE, TOKEN_BYTES};
 use std::ops::Range;
 use std::sync::OnceLock;
 
@@ -12,7 +12,9 @@ const BARE_WORD: u32 = 4;
 const STRING: u32 = 5;
 const QUOTED_IDENTIFIER: u32 = 6;
 const HERE_DOC: u32 = 7;
+const SEMICOLON: u32 = 15;
 const DOLLAR_SIGN: u32 = 18;
+const VERTICAL_DELIMITER: u32 = 38;
 const END_OF_STREAM: u32 = 39;
 const COMMENT_IS_NOT_CLOSED: u32 = 40;
 const SINGLE_QUOTE_IS_NOT_CLOSED: u32 = 41;
@@ -416,4 +418,37 @@ pub fn place_of(text: &[u8], offset: u64, places: &[(usize, usize)]) -> u64 {
 /// What a place must answer.
 pub fn place(text: &[u8], offset: u64) -> u64 {
     place_of(text, offset, &places(text))
+}
+
+/// Whether a token ends a statement.
+pub fn is_delimiter(token: &Triple) -> bool {
+    token.0 == SEMICOLON || token.0 == VERTICAL_DELIMITER
+}
+
+/// Document 02, #102: "what stands before the first Semicolon or VerticalDelimiter", of a text with this full list.
+pub fn statement(text: &[u8], tokens: &[Triple]) -> Statement {
+    match tokens.iter().position(is_delimiter) {
+        // "the end offset of that first delimiter token", "the delimiter's place in the full list counted from one"
+        Some(i) => Statement { tokens: i + 1, before: tokens[i].1 as usize, end: tokens[i].2 as usize },
+        // "or the text's length if there is none", "or the list's length"
+        None => Statement { tokens: tokens.len(), before: text.len(), end: text.len() },
+    }
+}
+
+/// What the first statement must answer: the tokens read in bits 28 to 55, the end in bits 0 to 27. "Refusals: only 1."
+pub fn first_statement(text: &[u8], statement: Statement) -> u64 {
+    if text.len() > MAX_QUERY_SIZE {
+        answer(1, 0, 0)
+    } else {
+        (statement.tokens as u64) << 28 | statement.end as u64
+    }
+}
+
+/// What its text must answer: the length of "what stands before". "Refusals: only 1."
+pub fn statement_text(text: &[u8], statement: Statement) -> u64 {
+    if text.len() > MAX_QUERY_SIZE {
+        answer(1, 0, 0)
+    } else {
+        answer(0, 0, statement.before)
+    }
 }

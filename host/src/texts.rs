@@ -18,6 +18,10 @@ pub const OF_COMMENTS: [char; 5] = ['/', '*', '-', '\n', 'a'];
 #[rustfmt::skip]
 pub const OF_EDGES: [char; 20] = ['a', '1', '_', '.', '\'', '$', '-', '/', '*', '\n', ' ', 'e', 'x', '=', '<', '>', 'é', 'ب', '\\', '"'];
 
+/// The characters that decide where a statement ends.
+#[rustfmt::skip]
+pub const OF_STATEMENTS: [char; 19] = [';', '\\', 'G', 'g', '\'', '"', '`', '$', 'a', '1', '.', '-', '/', '*', '\n', ' ', '‘', '’', 'é'];
+
 /// Every text of some length, in characters of the alphabet, a part of them at a time.
 pub fn every(length: u32) -> impl Iterator<Item = Vec<String>> {
     every_of(&ALPHABET, length)
@@ -46,14 +50,30 @@ fn within(r: &mut Random, short: &str, offset: usize) -> String {
     format!("{before}{last}{short}{next}{PLAIN}")
 }
 
-/// Every text of up to 3 characters of the alphabet, and of 4 of the characters that decide, from each of the offsets in a longer text, a part
-/// of them at a time, with their offset. All 41 characters would be 30 times as many texts of 4.
-pub fn at_the_end_of_a_block() -> impl Iterator<Item = (usize, Vec<String>)> {
+/// Some short texts from each of the offsets in a longer text, a part of them at a time, with their offset.
+fn from_each_offset(short: impl Iterator<Item = Vec<String>>) -> impl Iterator<Item = (usize, Vec<String>)> {
     let mut r = Random(0x0D95748F728EB658);
-    let short = (0..=3).flat_map(every).chain(every_of(&OF_EDGES, 4));
     short.flat_map(|some| OFFSETS.map(move |offset| (offset, some.clone()))).map(move |(offset, some)| {
         let long = some.iter().map(|short| within(&mut r, short, offset)).collect();
         (offset, long)
+    })
+}
+
+/// Every text of up to 3 characters of the alphabet, and of 4 of the characters that decide, there. All 41 characters would be 30 times as many texts
+/// of 4.
+pub fn at_the_end_of_a_block() -> impl Iterator<Item = (usize, Vec<String>)> {
+    from_each_offset((0..=3).flat_map(every).chain(every_of(&OF_EDGES, 4)))
+}
+
+/// Every text of up to 3 of the characters that decide where a statement ends, there; most have a delimiter further on, too.
+pub fn statements_at_the_end_of_a_block() -> impl Iterator<Item = Vec<String>> {
+    let mut r = Random(0x2B60A47681E67400);
+    from_each_offset((0..=3).flat_map(|length| every_of(&OF_STATEMENTS, length))).map(move |(_, mut some)| {
+        for text in &mut some {
+            let delimiter = r.one_of(&["", ";", "\\G"]);
+            *text += &format!("{delimiter}{PLAIN}");
+        }
+        some
     })
 }
 
@@ -183,6 +203,29 @@ pub fn random(r: &mut Random) -> String {
     text
 }
 
+/// What ends a statement, and what makes the end of one where it meets the other.
+const DELIMITERS: [&str; 8] = [";", ";", ";", ";;", "\\G", "\\g", "\\", "G"];
+
+/// A text with up to some number of delimiters put in: between any two characters, so inside of literals and comments too.
+pub fn delimited(r: &mut Random, text: &str, most: usize) -> String {
+    let mut text = text.to_string();
+    for _ in 0..r.below(most + 1) {
+        let at = text.floor_char_boundary(r.below(text.len() + 1));
+        text.insert_str(at, r.one_of(&DELIMITERS));
+    }
+    text
+}
+
+/// A script of up to 6 queries, a delimiter after each, and up to 3 more anywhere.
+pub fn script(r: &mut Random) -> String {
+    let mut text = String::new();
+    for _ in 0..r.below(7) {
+        text += &random(r);
+        text += r.one_of(&DELIMITERS);
+    }
+    delimited(r, &text, 3)
+}
+
 /// A text with some of its bytes replaced, removed or doubled, or cut off at a byte.
 pub fn damaged(r: &mut Random, text: &str) -> Vec<u8> {
     let mut text = text.as_bytes().to_vec();
@@ -219,6 +262,24 @@ pub fn cut(r: &mut Random, text: &[u8]) -> Vec<u8> {
     }
     text
 }
+
+/// Cut characters of each length, with the least and the greatest bytes that may go on; pairs that begin none, and bytes alone; and whole characters.
+#[rustfmt::skip]
+pub const BROKEN: [&[u8]; 26] = [
+    b"\xC3", b"\xE2", b"\xF0", b"\xF4", b"\xE0\xA0", b"\xE2\x80", b"\xED\x9F", b"\xEF\xBF", b"\xF0\x90", b"\xF0\x9F", b"\xF4\x8F", b"\xF0\x9F\x98",
+    b"\xF1\x80\x80", b"\xF4\x8F\xBF", b"\xC0\xAF", b"\xE0\x80", b"\xED\xA0", b"\xF0\x8F", b"\xF4\x90", b"\xF5\x80", b"\x80", b"\xFF", b"\xC3\xA9",
+    b"\xE2\x80\x99", b"\xE2\x80\x83", b"\xF0\x9F\x98\x80",
+];
+
+/// What stands before and after: nothing, each kind of literal with and without its end, words, numbers, tags, operators and what a backslash takes.
+#[rustfmt::skip]
+pub const AROUND: [(&str, &str); 45] = [
+    ("", ""), ("'", "'"), ("'", ""), ("\"", "\""), ("\"", ""), ("`", "`"), ("`", ""), ("‘", "’"), ("‘", ""), ("“", "”"), ("“", ""), ("--", "\n"),
+    ("--", ""), ("/*", "*/"), ("/*/*", "*/*/"), ("/*", ""), ("/", "*"), ("$", "$b$a$"), ("$a", "$b$a$"), ("$a$", "$a$"), ("$a$", "$a"), ("$$", "$$"),
+    ("$$", ""), ("a", "b"), ("_", "é"), ("aé", "1"), ("1", "x"), ("12", "_3"), ("0x", "1"), ("1e", "5"), ("1.", "e5"), (".", "1"), ("1a$", "$"),
+    (" ", " "), ("\u{A0}", "\u{2003}"), ("\\", "G"), ("\\", ""), ("'\\", "'"), ("'\\", "''"), ("`\\", "`"), ("-", "-"), ("=", ">"),
+    ("<", "="), ("@", "'a'"), ("’", "\"a\""),
+];
 
 /// The worked cases of #105, of which four are the Unicode Standard's (tables 3-8 to 3-11): a text and its units, for each that is broken the digit of
 /// its length, and each letter for itself.

@@ -17,7 +17,7 @@ fn lists<'a>(calls: &mut Vec<Call<'a>>, op: Op, mode: u32, position: u64, text: 
 fn calls<'a>(r: &mut Random, text: &'a [u8]) -> Vec<Call<'a>> {
     let length = text.len();
     let any = |r: &mut Random| r.below(length + 2) as u64;
-    let mut calls = vec![Call::read(Op::ValidLength, 0, text)];
+    let mut calls = [Op::ValidLength, Op::FirstStatement, Op::StatementText].map(|op| Call::read(op, 0, text)).to_vec();
     for mode in [0, 1, 2] {
         lists(&mut calls, Op::List, mode, 0, text);
         lists(&mut calls, Op::ListUpTo, mode, any(r), text);

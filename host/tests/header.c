@@ -77,6 +77,32 @@ static int broken(void) {
     return 0;
 }
 
+static int is_statement(uint64_t answer, uint32_t number, uint32_t tokens, uint32_t end) {
+    return giehtamun_number(answer) == number && giehtamun_statement_tokens(answer) == tokens && giehtamun_statement_end(answer) == end;
+}
+
+/* From the end of a statement the same call on the rest gives the next, and the last may end with a semicolon that is no delimiter. */
+static int statements(void) {
+    static const uint8_t text[] = "a ';';b\\G-- c;", too_long[GIEHTAMUN_MAX_QUERY_SIZE + 1] = {';'};
+    static const uint32_t ends[] = {6, 3, 5}, tokens[] = {4, 2, 1}, parts[] = {5, 1, 5};
+    size_t at = 0, i;
+    for (i = 0; i < 3; i++) {
+        uint64_t first = giehtamun_first_statement(text + at, sizeof text - 1 - at);
+        if (!is_statement(first, GIEHTAMUN_DONE, tokens[i], ends[i]))
+            return 26;
+        if (!is(giehtamun_statement_text(text + at, sizeof text - 1 - at), GIEHTAMUN_DONE, 0, parts[i]))
+            return 27;
+        at += giehtamun_statement_end(first);
+    }
+    if (at != sizeof text - 1 || !is_statement(giehtamun_first_statement(text + at, 0), GIEHTAMUN_DONE, 0, 0))
+        return 28;
+    if (!is_statement(giehtamun_first_statement(too_long, sizeof too_long), GIEHTAMUN_TOO_LONG, 0, 0))
+        return 29;
+    if (!is(giehtamun_statement_text(too_long, sizeof too_long), GIEHTAMUN_TOO_LONG, 0, 0))
+        return 30;
+    return 0;
+}
+
 /* The hiding kinds are 2, 5, 7 and 40 to 43. */
 static int hiding_kinds(void) {
     uint32_t kind;
@@ -94,5 +120,7 @@ int main(void) {
         wrong = hiding_kinds();
     if (wrong == 0)
         wrong = broken();
+    if (wrong == 0)
+        wrong = statements();
     return wrong;
 }

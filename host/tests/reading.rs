@@ -6,6 +6,10 @@ fn same_list(text: &str) {
     assert_eq!(reading::full(text.as_bytes()), oracle::full(text), "{text:?}");
 }
 
+fn same_statement(text: &str) {
+    assert_eq!(reading::statement(text.as_bytes(), &reading::full(text.as_bytes())), oracle::first_statement(text), "{text:?}");
+}
+
 fn same_lists(text: &str, position: usize) {
     for (op, mode) in [(Op::List, 0), (Op::List, 1), (Op::ListUpTo, 0), (Op::ListUpTo, 1)] {
         let call = Call::list(op, mode, position as u64, text.as_bytes(), 0);
@@ -47,4 +51,18 @@ fn every_character() {
     let n = characters.clone().count();
     characters.for_each(|c| same_list(&format!("{c}a{c}1{c}'{c}")));
     println!("the reading and the Rust: {n} characters");
+}
+
+#[test]
+fn the_first_statement() {
+    let mut r = Random(0x2E0B4482A4842004);
+    let every = (0..=3).flat_map(|length| texts::every_of(&texts::OF_STATEMENTS, length)).flatten();
+    let n = texts::how_many(30_000);
+    let random = (0..n).map(|_| texts::script(&mut r));
+    let mut count = 0;
+    for text in every.chain(random) {
+        same_statement(&text);
+        count += 1;
+    }
+    println!("the reading and the Rust: the first statement of {count} texts, {n} of them random scripts");
 }

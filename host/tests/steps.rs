@@ -1,5 +1,6 @@
 //! Single steps, through the C function: against the Rust from every token's edge, against the second reading from everywhere, and what is broken
 //! against `utf8_chunks`.
+use host::texts::{AROUND, BROKEN};
 use host::{ask, compare, reading, texts, Answer, Call, Op, Random, AROUND_THE_LIMIT, MAX_QUERY_SIZE};
 
 /// What document 01 has for a step, by the second reading.
@@ -34,24 +35,6 @@ fn from_everywhere_in_every_sequence_of_up_to_four_bytes() {
     }
     println!("every sequence of up to 4 of {} bytes, from everywhere: {compared} steps", BYTES.len());
 }
-
-/// Cut characters of each length, with the least and the greatest bytes that may go on; pairs that begin none, and bytes alone; and whole characters.
-#[rustfmt::skip]
-const BROKEN: [&[u8]; 26] = [
-    b"\xC3", b"\xE2", b"\xF0", b"\xF4", b"\xE0\xA0", b"\xE2\x80", b"\xED\x9F", b"\xEF\xBF", b"\xF0\x90", b"\xF0\x9F", b"\xF4\x8F", b"\xF0\x9F\x98",
-    b"\xF1\x80\x80", b"\xF4\x8F\xBF", b"\xC0\xAF", b"\xE0\x80", b"\xED\xA0", b"\xF0\x8F", b"\xF4\x90", b"\xF5\x80", b"\x80", b"\xFF", b"\xC3\xA9",
-    b"\xE2\x80\x99", b"\xE2\x80\x83", b"\xF0\x9F\x98\x80",
-];
-
-/// What stands before and after: nothing, each kind of literal with and without its end, words, numbers, tags, operators and what a backslash takes.
-#[rustfmt::skip]
-const AROUND: [(&str, &str); 45] = [
-    ("", ""), ("'", "'"), ("'", ""), ("\"", "\""), ("\"", ""), ("`", "`"), ("`", ""), ("‘", "’"), ("‘", ""), ("“", "”"), ("“", ""), ("--", "\n"),
-    ("--", ""), ("/*", "*/"), ("/*/*", "*/*/"), ("/*", ""), ("/", "*"), ("$", "$b$a$"), ("$a", "$b$a$"), ("$a$", "$a$"), ("$a$", "$a"), ("$$", "$$"),
-    ("$$", ""), ("a", "b"), ("_", "é"), ("aé", "1"), ("1", "x"), ("12", "_3"), ("0x", "1"), ("1e", "5"), ("1.", "e5"), (".", "1"), ("1a$", "$"),
-    (" ", " "), ("\u{A0}", "\u{2003}"), ("\\", "G"), ("\\", ""), ("'\\", "'"), ("'\\", "''"), ("`\\", "`"), ("-", "-"), ("=", ">"),
-    ("<", "="), ("@", "'a'"), ("’", "\"a\""),
-];
 
 #[test]
 fn from_everywhere_in_broken_characters_within_everything() {

@@ -1,10 +1,10 @@
-//! ./giehtamun: lists, masks or shows the SQL in a file. help.txt says how.
+//! ./giehtamun: lists, masks or shows the SQL in a file, or prints its statements. help.txt says how.
 mod list;
 mod page;
 mod show;
 mod unseen;
 
-use giehtamun::{MAX_QUERY_SIZE, Place, Refusal, Token, place, step};
+use giehtamun::{First, MAX_QUERY_SIZE, Place, Refusal, Token, first_statement, place, statements, step};
 use std::ffi::{OsStr, OsString};
 use std::fs::File;
 use std::io::{self, ErrorKind, Read, Write, stdin, stdout};
@@ -15,6 +15,7 @@ enum Command {
     List { lean: bool },
     Mask,
     Show { html: bool },
+    First { all: bool, end: u8 },
 }
 
 /// The command and the file that the words of a call name.
@@ -29,6 +30,10 @@ fn command(words: &[OsString]) -> Option<(Command, &OsStr)> {
         ("mask", []) => Command::Mask,
         ("show", []) => Command::Show { html: false },
         ("show", ["--html"]) => Command::Show { html: true },
+        ("first", []) => Command::First { all: false, end: b'\n' },
+        ("first", ["--null"]) => Command::First { all: false, end: 0 },
+        ("first", ["--all"]) => Command::First { all: true, end: b'\n' },
+        ("first", ["--all", "--null"] | ["--null", "--all"]) => Command::First { all: true, end: 0 },
         _ => return None,
     };
     Some((command, file))
@@ -47,6 +52,11 @@ fn with_list(text: &[u8], tokens: Vec<Token>, made: impl FnOnce(&str, Vec<Token>
     made(str::from_utf8(text).expect("a text that has a list"), tokens).into_bytes()
 }
 
+/// Statements byte for byte, each without its delimiter and with a byte after it.
+fn ended<'a>(statements: impl Iterator<Item = First<'a>>, end: u8) -> Vec<u8> {
+    statements.flat_map(|statement| [statement.part, &[end]].concat()).collect()
+}
+
 /// What a command prints about a text.
 fn printed(command: Command, name: &str, text: &[u8]) -> Result<Vec<u8>, Refusal> {
     Ok(match command {
@@ -55,6 +65,8 @@ fn printed(command: Command, name: &str, text: &[u8]) -> Result<Vec<u8>, Refusal
         Command::Mask => giehtamun::mask(text)?,
         Command::Show { html: false } => with_list(text, giehtamun::list(text)?, show::coloured),
         Command::Show { html: true } => with_list(text, giehtamun::list(text)?, |text, tokens| page::page(name, text, tokens)),
+        Command::First { all: false, end } => ended([first_statement(text)?].into_iter(), end),
+        Command::First { all: true, end } => ended(statements(text)?, end),
     })
 }
 

@@ -149,9 +149,39 @@ fn the_size_limit() {
     assert_eq!(list.lines().last(), Some(&*last));
     assert_eq!(prints(&["mask", "-"], all).as_bytes(), all);
     assert_eq!(prints(&["show", "--html", "-"], all).matches("<span").count(), MAX_QUERY_SIZE);
-    for words in [&["list", "-"][..], &["list", "--lean", "-"], &["mask", "-"], &["show", "-"], &["show", "--html", "-"]] {
+    for words in [&["list", "-"][..], &["list", "--lean", "-"], &["mask", "-"], &["show", "-"], &["show", "--html", "-"], &["first", "-"], &["first", "--all", "-"]] {
         refuses(words, &text, &format!("standard input: longer than {MAX_QUERY_SIZE} bytes"), 1);
     }
+}
+
+/// A delimiter in a string, a comment or a here-document is none, and what stands after the first one is not read.
+#[test]
+fn first_prints_the_first_statement() {
+    let first = |text: &[u8]| prints(&["first", "-"], text);
+    assert_eq!(first(b"SELECT 1; SELECT 2"), "SELECT 1\n");
+    assert_eq!(first(b"SELECT 1\\G SELECT 2;"), "SELECT 1\n");
+    assert_eq!(first(b"a ';' /*;*/ $$;$$ -- ;\n;b"), "a ';' /*;*/ $$;$$ -- ;\n\n");
+    assert_eq!(first("'שלום;'; x".as_bytes()), "'שלום;'\n");
+    assert_eq!(first(b"a; \xFF"), "a\n");
+    assert_eq!(run(&["first", "-"], b"\xE2\x80;").0, b"\xE2\x80\n");
+    assert_eq!(prints(&["first", "--null", "-"], b"a\nb;"), "a\nb\0");
+    // What ends the file is no delimiter where it belongs to a comment or to a string.
+    assert_eq!(first(b"a -- b;"), "a -- b;\n");
+    assert_eq!(first(b"'a\\G"), "'a\\G\n");
+    assert_eq!([first(b"a;"), first(b"a"), first(b";"), first(b"")], ["a\n", "a\n", "\n", "\n"]);
+}
+
+#[test]
+fn first_prints_all_statements() {
+    let script = b"SELECT 1;\nSELECT ';'\\G;\n-- end;\n";
+    assert_eq!(prints(&["first", "--all", "-"], script), "SELECT 1\n\nSELECT ';'\n\n\n-- end;\n\n");
+    for words in [["first", "--all", "--null", "-"], ["first", "-", "--null", "--all"]] {
+        assert_eq!(prints(&words, script), "SELECT 1\0\nSELECT ';'\0\0\n-- end;\n\0");
+    }
+    assert_eq!(prints(&["first", "--all", "-"], b""), "");
+    // Without a delimiter there is one statement, with the most there are as many as bytes.
+    let most = ";".repeat(MAX_QUERY_SIZE);
+    assert_eq!(prints(&["first", "--all", "-"], most.as_bytes()), "\n".repeat(MAX_QUERY_SIZE));
 }
 
 #[test]
@@ -164,7 +194,7 @@ fn refusals() {
     refuses(&["list", "no/such"], b"", "no/such: No such file or directory (os error 2)", 1);
     refuses(&["list", "no\nsuch"], b"", "no\\nsuch: No such file or directory (os error 2)", 1);
     refuses(&["mask", env!("CARGO_MANIFEST_DIR")], b"", concat!(env!("CARGO_MANIFEST_DIR"), ": Is a directory (os error 21)"), 1);
-    let wrong: [&[&str]; 8] = [
+    let wrong: [&[&str]; 10] = [
         &[],
         &["list"],
         &["lists", "-"],
@@ -173,6 +203,8 @@ fn refusals() {
         &["show", "--lean", "-"],
         &["--html"],
         &["list", "--x", "-"],
+        &["first", "--html", "-"],
+        &["list", "--all", "-"],
     ];
     for words in wrong {
         refuses(words, b"", "no such command: ./giehtamun --help says which there are", 2);

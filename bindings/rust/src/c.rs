@@ -10,6 +10,8 @@ unsafe extern "C" {
     fn giehtamun_token_text(text: *const u8, text_len: usize, start: usize, end: usize) -> u64;
     fn giehtamun_shown_text(text: *const u8, text_len: usize, copy: *const u8, copy_len: usize, kind: u32, start: usize, end: usize) -> u64;
     fn giehtamun_place(text: *const u8, text_len: usize, offset: usize) -> u64;
+    fn giehtamun_first_statement(text: *const u8, text_len: usize) -> u64;
+    fn giehtamun_statement_text(text: *const u8, text_len: usize) -> u64;
 }
 
 pub fn list(text: &[u8], mode: Mode, list: &mut [u8]) -> u64 {
@@ -38,4 +40,12 @@ pub fn shown_text(text: &[u8], copy: &[u8], kind: u32, start: usize, end: usize)
 
 pub fn place(text: &[u8], offset: usize) -> u64 {
     unsafe { giehtamun_place(text.as_ptr(), text.len(), offset) }
+}
+
+pub fn first_statement(text: &[u8]) -> u64 {
+    unsafe { giehtamun_first_statement(text.as_ptr(), text.len()) }
+}
+
+pub fn statement_text(text: &[u8]) -> u64 {
+    unsafe { giehtamun_statement_text(text.as_ptr(), text.len()) }
 }

@@ -13,7 +13,8 @@
 //! # Ok::<(), giehtamun::Refusal>(())
 //! ```
 //!
-//! Lists and masked copies take at most 38 KB of the stack, and 824 KB where a text has many dollar signs that begin nothing; all else takes under 4 KB.
+//! Lists, masked copies and first statements take at most 38 KB of the stack, and 824 KB where a text has many dollar signs that begin nothing; all
+//! else takes under 4 KB.
 #![deny(missing_docs)]
 
 mod c;
@@ -126,6 +127,12 @@ pub struct Place {
 fn value(answer: u64) -> Result<usize, Refusal> {
     let value = (answer & 0xFFFF_FFFF_FFFF) as usize;
     Refusal::from_answer((answer >> 56) as u32, value).map_or(Ok(value), Err)
+}
+
+/// The number of an answer, as a refusal, or its two numbers of 28 bits.
+fn halves(answer: u64) -> Result<(u32, u32), Refusal> {
+    let bits = |from| (answer >> from) as u32 & 0xFFF_FFFF;
+    Refusal::from_answer((answer >> 56) as u32, 0).map_or(Ok((bits(28), bits(0))), Err)
 }
 
 /// Room for the list of a text: a token a byte is always enough.
@@ -373,7 +380,96 @@ pub fn shown_text<'a>(text: &'a [u8], copy: &'a [u8], token: Token) -> Result<&'
 /// # Ok::<(), giehtamun::Refusal>(())
 /// ```
 pub fn place(text: &[u8], offset: usize) -> Result<Place, Refusal> {
-    let answer = c::place(text, offset);
-    let bits = |from| (answer >> from) as u32 & 0xFFF_FFFF;
-    Refusal::from_answer((answer >> 56) as u32, 0).map_or(Ok(Place { line: bits(28), column: bits(0) }), Err)
+    let (line, column) = halves(c::place(text, offset))?;
+    Ok(Place { line, column })
 }
+
+/// A statement: the first of a text, or the first of what is left of it. It ends with a [`Kind::Semicolon`] or [`Kind::VerticalDelimiter`], or with
+/// the text.
+///
+/// ```
+/// use giehtamun::{First, first_statement};
+/// let script = b"SELECT 1; SELECT 2";
+/// assert_eq!(first_statement(script)?, First { start: 0, end: 9, tokens: 4, part: b"SELECT 1" });
+/// # Ok::<(), giehtamun::Refusal>(())
+/// ```
+#[derive(Clone, Copy, Debug, PartialEq, Eq, Hash)]
+pub struct First<'a> {
+    /// Where it starts in the text.
+    pub start: usize,
+    /// The offset after its delimiter, where the next statement starts; the text's length where there is none.
+    pub end: usize,
+    /// Its tokens, with its delimiter: of the first statement of a text, the delimiter's place in the text's list, counted from one, or the list's length.
+    pub tokens: usize,
+    /// Its text: what stands before its delimiter.
+    pub part: &'a [u8],
+}
+
+/// The first statement of a text. What follows it is not read, so that it costs what the statement does and not what the text does; only a dollar
+/// sign in it may have the rest of the text searched.
+///
+/// A delimiter inside a string, a comment or a here-document is none. Nothing is tested for UTF-8: the tokens are those of [`steps`].
+///
+/// ```
+/// use giehtamun::{Refusal, first_statement};
+/// assert_eq!(first_statement(b"SELECT ';' -- a;\n\\G SELECT 2")?.part, b"SELECT ';' -- a;\n");
+/// // A comment may end with a semicolon: that is no delimiter.
+/// assert_eq!(first_statement(b"SELECT 1 -- a;")?.part, b"SELECT 1 -- a;");
+/// assert_eq!(first_statement(b"SELECT 1; \xFF")?.end, 9);
+/// assert_eq!(first_statement(&[b';'; 1_000_001]), Err(Refusal::TooLong));
+/// # Ok::<(), Refusal>(())
+/// ```
+pub fn first_statement(text: &[u8]) -> Result<First<'_>, Refusal> {
+    let (tokens, end) = halves(c::first_statement(text))?;
+    let bytes = value(c::statement_text(text))?;
+    Ok(First { start: 0, end: end as usize, tokens: tokens as usize, part: &text[..bytes] })
+}
+
+/// The statements of a text one after another, each by a [`first_statement`] of what is left, until nothing is. They are those into which the
+/// delimiters of the text's list cut it, and nothing is lost: each starts where the one before it ends, and the last ends with the text.
+///
+/// So what stands between two delimiters is a statement even if it is empty or blank, and so is a line end after the last one. Each costs what it is
+/// long; but a statement with a dollar sign may search the rest of the text, which a list of the whole text does not.
+///
+/// ```
+/// use giehtamun::statements;
+/// let script = b"SELECT 1;\nSELECT ';'\\G\n";
+/// let parts: Vec<&[u8]> = statements(script)?.map(|statement| statement.part).collect();
+/// assert_eq!(parts, [&b"SELECT 1"[..], b"\nSELECT ';'", b"\n"]);
+/// # Ok::<(), giehtamun::Refusal>(())
+/// ```
+pub fn statements(text: &[u8]) -> Result<Statements<'_>, Refusal> {
+    // Too long is the only reason to refuse a place at 0, and a statement.
+    place(text, 0)?;
+    Ok(Statements { text, start: 0 })
+}
+
+/// An iterator over the statements of a text, as [`statements`] gives it.
+///
+/// ```
+/// let mut statements = giehtamun::statements(b"a; b")?;
+/// statements.next();
+/// assert_eq!(statements.next().map(|second| (second.start, second.end)), Some((2, 4)));
+/// # Ok::<(), giehtamun::Refusal>(())
+/// ```
+#[derive(Clone, Debug)]
+pub struct Statements<'a> {
+    text: &'a [u8],
+    start: usize,
+}
+
+impl<'a> Iterator for Statements<'a> {
+    type Item = First<'a>;
+
+    fn next(&mut self) -> Option<First<'a>> {
+        let (start, rest) = (self.start, &self.text[self.start..]);
+        if rest.is_empty() {
+            return None;
+        }
+        let first = first_statement(rest).expect("a text that is not too long");
+        self.start += first.end;
+        Some(First { start, end: self.start, ..first })
+    }
+}
+
+impl FusedIterator for Statements<'_> {}

@@ -17,6 +17,17 @@ fn cases() -> Vec<(&'static [u8], Vec<Token>)> {
     cases
 }
 
+/// What the delimiters of a list cut a text into.
+fn cut<'a>(text: &'a [u8], full: &[Token]) -> Vec<First<'a>> {
+    let delimits = |token: &Token| matches!(token.kind, Kind::Semicolon | Kind::VerticalDelimiter);
+    let statement = |tokens: &[Token]| {
+        let (start, last) = (tokens[0].start as usize, tokens[tokens.len() - 1]);
+        let before = if delimits(&last) { last.start } else { last.end };
+        First { start, end: last.end as usize, tokens: tokens.len(), part: &text[start..before as usize] }
+    };
+    full.split_inclusive(delimits).map(statement).collect()
+}
+
 #[test]
 fn every_stored_answer() {
     let cases = cases();
@@ -30,6 +41,11 @@ fn every_stored_answer() {
         let position = text.len() / 2;
         let up_to: Vec<Token> = full.iter().copied().filter(|t| (t.start as usize) < position).collect();
         assert_eq!(list_up_to(text, Mode::Full, position).unwrap(), up_to, "{shown}");
+
+        let pieces = cut(text, &full);
+        assert_eq!(statements(text).unwrap().collect::<Vec<_>>(), pieces, "{shown}");
+        let nothing = First { start: 0, end: 0, tokens: 0, part: b"" };
+        assert_eq!(first_statement(text).unwrap(), *pieces.first().unwrap_or(&nothing), "{shown}");
 
         let texts: Vec<&[u8]> = full.iter().map(|token| token.text(text).unwrap()).collect();
         assert_eq!(texts.concat(), text, "{shown}");

@@ -43,24 +43,26 @@ fn take_at_most(most: usize, calls: Calls) {
     assert!(most / 4 < taken && taken <= most, "{taken} bytes of the stack, of {most}");
 }
 
-fn lists_and_masks(text: &[u8]) {
+fn lists_masks_and_statements(text: &[u8]) {
     list(text).unwrap();
     list_lean(text).unwrap();
     list_up_to(text, Mode::Full, text.len() / 2).unwrap();
     list_up_to(text, Mode::Lean, text.len()).unwrap();
     mask(text).unwrap();
+    first_statement(text).unwrap();
+    statements(text).unwrap().for_each(drop);
 }
 
 #[test]
 fn a_query_takes_38_kilobytes() {
     let text = "SELECT a, 'שלום', $$b$$ /* c */ FROM naïve, aक, 1क, 2一, 1१ -- d\n".repeat(1_000);
-    take_at_most(38_000, &|| lists_and_masks(text.as_bytes()));
+    take_at_most(38_000, &|| lists_masks_and_statements(text.as_bytes()));
 }
 
 #[test]
 fn a_text_that_is_looked_ahead_in_takes_824() {
     let text: String = (0..20_000).map(|k| format!("$a{k}")).collect();
-    take_at_most(824_000, &|| lists_and_masks(text.as_bytes()));
+    take_at_most(824_000, &|| lists_masks_and_statements(text.as_bytes()));
 }
 
 #[test]
