@@ -429,7 +429,7 @@ pub fn first_statement(text: &[u8]) -> Result<First<'_>, Refusal> {
 /// delimiters of the text's list cut it, and nothing is lost: each starts where the one before it ends, and the last ends with the text.
 ///
 /// So what stands between two delimiters is a statement even if it is empty or blank, and so is a line end after the last one. Each costs what it is
-/// long; but a statement with a dollar sign may search the rest of the text, which a list of the whole text does not.
+/// long, but a dollar sign in it may have the rest of the text searched. Where such searches become many, what is left is listed once, if it is UTF-8.
 ///
 /// ```
 /// use giehtamun::statements;
@@ -441,7 +441,7 @@ pub fn first_statement(text: &[u8]) -> Result<First<'_>, Refusal> {
 pub fn statements(text: &[u8]) -> Result<Statements<'_>, Refusal> {
     // Too long is the only reason to refuse a place at 0, and a statement.
     place(text, 0)?;
-    Ok(Statements { text, start: 0 })
+    Ok(Statements { text, start: 0, searched: 0, listed: None })
 }
 
 /// An iterator over the statements of a text, as [`statements`] gives it.
@@ -456,6 +456,24 @@ pub fn statements(text: &[u8]) -> Result<Statements<'_>, Refusal> {
 pub struct Statements<'a> {
     text: &'a [u8],
     start: usize,
+    /// So many bytes at most were searched for the end of what a dollar sign began.
+    searched: usize,
+    /// The tokens that are left, and the offset that theirs are counted from.
+    listed: Option<(usize, std::vec::IntoIter<Token>)>,
+}
+
+impl Statements<'_> {
+    /// When so many bytes were searched, a list of what is left costs little more.
+    const MANY: usize = 16 * MAX_QUERY_SIZE;
+
+    /// Lists what is left where a statement may have had it searched once too often.
+    fn note(&mut self, had_dollar: bool) {
+        let before = self.searched;
+        self.searched += if had_dollar { self.text.len() - self.start } else { 0 };
+        if before < Self::MANY && self.searched >= Self::MANY {
+            self.listed = list(&self.text[self.start..]).ok().map(|tokens| (self.start, tokens.into_iter()));
+        }
+    }
 }
 
 impl<'a> Iterator for Statements<'a> {
@@ -466,10 +484,27 @@ impl<'a> Iterator for Statements<'a> {
         if rest.is_empty() {
             return None;
         }
-        let first = first_statement(rest).expect("a text that is not too long");
+        let first = match &mut self.listed {
+            Some((from, tokens)) => first_of(rest, start - *from, tokens),
+            None => first_statement(rest).expect("a text that is not too long"),
+        };
         self.start += first.end;
+        self.note(first.part.contains(&b'$'));
         Some(First { start, end: self.start, ..first })
     }
+}
+
+/// The first statement of a text, by the tokens that its list has from an offset on. It takes its own.
+fn first_of<'a>(text: &'a [u8], offset: usize, list: &mut impl Iterator<Item = Token>) -> First<'a> {
+    let mut first = First { start: 0, end: text.len(), tokens: 0, part: text };
+    for token in list {
+        first.tokens += 1;
+        if matches!(token.kind, Kind::Semicolon | Kind::VerticalDelimiter) {
+            (first.end, first.part) = (token.end as usize - offset, &text[..token.start as usize - offset]);
+            break;
+        }
+    }
+    first
 }
 
 impl FusedIterator for Statements<'_> {}

@@ -55,3 +55,18 @@ fn every_stored_answer() {
         assert_eq!(parts.concat(), copy, "{shown}");
     }
 }
+
+/// A script in which each statement has the rest searched for a tag that never comes again; without a list it takes some time.
+#[test]
+fn statements_with_many_dollars() {
+    let script: String = (0..120_000).map(|k| format!("$a{k}$;")).collect();
+    let script = &script.as_bytes()[..MAX_QUERY_SIZE];
+    let pieces = cut(script, &list(script).unwrap());
+    assert!(pieces.len() > 100_000);
+    assert_eq!(statements(script).unwrap().collect::<Vec<_>>(), pieces);
+    // What is not UTF-8 has no list, and goes on as it began.
+    let broken = [&script[..20_000], b"\xFF;a"].concat();
+    let walked: Vec<First> = statements(&broken).unwrap().collect();
+    assert_eq!(walked.iter().map(|first| first.tokens).sum::<usize>(), steps(&broken).unwrap().count());
+    assert_eq!(walked.last().map(|last| last.part), Some(&b"a"[..]));
+}

@@ -67,32 +67,33 @@ module _ (s : List ℕ) where
         ∙ ap (λ (m : ℕ). statement m (c .bytes) (c .end)) z
         ∙ sym (found-open i n (omega arith) ∙ ap (λ (ts : List Token). plus n (firstIn (length s) ts)) next ∙ ap (plus n) (first-later (length s) (token (x .kind) i (x .end)) (tokensFrom s (x .end)) d))
 
--- What a walk carries that may stop before the end: the same statement, and no delimiter was read while it goes on, or where something is left to read.
-pub record Found (s : List ℕ) (from : Reading) (stop : ℕ) (to : Reading) : Type 0 where
-  pub same : found s to ≡ found s from
-  pub going : 0 < stop → Open s to
-  pub still : to .cursor < to .end → Open s to
+-- What a walk carries while it goes on: no delimiter was read, and the statement is the same.
+pub record Going (s : List ℕ) (cursor₀ tokens₀ cursor tokens : ℕ) : Type 0 where
+  pub inside : cursor ≤ length s
+  pub few : tokens ≤ cursor
+  pub same : found s (reading cursor tokens (length s) (length s)) ≡ found s (reading cursor₀ tokens₀ (length s) (length s))
 
-pub found-none : (s : List ℕ) (r : Reading) (stop : ℕ) → Open s r → Found s r stop r
-found-none s r stop o = record { same = refl; going = λ l. o; still = λ l. o }
+module _ (s : List ℕ) (r : Reading) (o : Open s r) where
+  pub going-first : Going s (r .cursor) (r .tokens) (r .cursor) (r .tokens)
+  going-first = record { inside = o .inside; few = o .few; same = refl }
 
-module _ (s : List ℕ) (from : Reading) (stop i n bytes end : ℕ) (f : Found s from stop (reading i n bytes end)) (g : 0 < stop) (h : i < length s)
-    (x : Lexed) (e : x ≡ endsAt i (lexeme (afterDotAt s i) (drop i s))) where
-  whole : (cursor tokens : ℕ) → reading cursor tokens (length s) (length s) ≡ reading cursor tokens bytes end
-  whole cursor tokens = let o = f .going g in ap₂ (reading cursor tokens) (sym (o .bytes)) (sym (o .end))
+  -- what it began with
+  pub going-from : found s (reading (r .cursor) (r .tokens) (length s) (length s)) ≡ found s r
+  going-from = ap (found s) (ap₂ (reading (r .cursor) (r .tokens)) (sym (o .bytes)) (sym (o .end)))
 
-  before : found s (reading i n (length s) (length s)) ≡ found s from
-  before = ap (found s) (whole i n) ∙ f .same
+module _ (s : List ℕ) (cursor₀ tokens₀ i n : ℕ) (g : Going s cursor₀ tokens₀ i n) where
+  -- Nothing is left, or it pays to look ahead.
+  pub going-open : Open s (reading i n (length s) (length s))
+  going-open = record { inside = g .inside; few = g .few; bytes = refl; end = refl }
 
-  -- a turn reads a delimiter, and the walk ends
-  pub found-end : delimiter (x .kind) ≡ true → Found s from 0 (reading (x .end) (n + 1) i (x .end))
-  found-end d = record { same = read-delimiter s i n h x e d ∙ before; going = λ l. absurd (omega arith); still = λ l. absurd (omega arith) }
+  module _ (h : i < length s) (x : Lexed) (e : x ≡ endsAt i (lexeme (afterDotAt s i) (drop i s))) where
+    -- A turn reads a delimiter, and the walk ends,
+    pub going-end : delimiter (x .kind) ≡ true → found s (reading (x .end) (n + 1) i (x .end)) ≡ found s (reading cursor₀ tokens₀ (length s) (length s))
+    going-end d = read-delimiter s i n h x e d ∙ g .same
 
-  -- or any other token
-  pub found-on : delimiter (x .kind) ≡ false → (stop′ : ℕ) → Found s from stop′ (reading (x .end) (n + 1) bytes end)
-  found-on d stop′ =
-      let o = f .going g in
-      let k = o .few in
-      let m = next-lies s i x h e in
-      let open′ : Open s (reading (x .end) (n + 1) bytes end) = record { inside = m .1; few = omega arith; bytes = o .bytes; end = o .end } in
-      record { same = ap (found s) (sym (whole (x .end) (n + 1))) ∙ read-other s i n h x e d ∙ before; going = λ l. open′; still = λ l. open′ }
+    -- or any other token.
+    pub going-on : delimiter (x .kind) ≡ false → Going s cursor₀ tokens₀ (x .end) (n + 1)
+    going-on d =
+        let k = g .few in
+        let m = next-lies s i x h e in
+        record { inside = m .1; few = omega arith; same = read-other s i n h x e d ∙ g .same }

@@ -53,8 +53,6 @@ fn read_some(text: &[u8], from: Reading, until: usize, lone: &[u64]) -> Reading
     let mut shy = false;
     let mut base = 0;
     let mut bits = 0;
-    let mut end = from.end;
-    let mut bytes = from.bytes;
     let mut tokens = from.tokens;
     let mut cursor = from.cursor;
     while cursor < stop {
@@ -77,16 +75,19 @@ fn read_some(text: &[u8], from: Reading, until: usize, lone: &[u64]) -> Reading
         bits = token.bits;
         tokens += 1;
         if is_delimiter(token.kind) {
-            bytes = start;
-            end = cursor;
-            stop = 0;
+            return Reading {
+                cursor,
+                tokens,
+                bytes: start,
+                end: cursor,
+            };
         }
     }
     Reading {
         cursor,
         tokens,
-        bytes,
-        end,
+        bytes: text.len(),
+        end: text.len(),
     }
 }
 

@@ -1,5 +1,5 @@
--- `statements::read_some` meets its contract. The invariant: the statement that is found with what is left to read is the same, and while the walk goes
--- on no delimiter was read. The measure is what is left of the text. Assumes nothing.
+-- `statements::read_some` meets its contract. The invariant: no delimiter was read, and what is found with what is left to read is the same. The measure
+-- is what is left of the text. Assumes nothing.
 use Prim.Native.Nat.{ℕ, _+_, _-_, _≤_, _<_}
 use native.Mathlib.Omega.{arith}
 use mathlib.Core.Path.{_≡_, refl, sym, ap, _∙_, subst}
@@ -13,17 +13,16 @@ use Rattle.ahead.proofs.Bits.{marked-later}
 use Rattle.edges.specs.declared.Next.{Next}
 use Rattle.edges.specs.Left.{Left, Taken, Spared, Goes}
 use Rattle.edges.proofs.Going.{goes-first, goes-inside, goes-spared, goes-moves, goes-on, goes-moved}
-use Rattle.statements.specs.Walks.{Open, found}
-use Rattle.statements.proofs.Walks.{reading, Found, found-none, found-on, found-end}
+use Rattle.statements.proofs.Walks.{Going, going-first, going-from, going-open, going-end, going-on}
 use Rattle.statements.proofs.read_some.Statement.{statement}
 use Rattle.statements.proofs.read_some.Tie as tie
 
 abbrev Inv-loop : tie.InvT-loop
-Inv-loop text until lone leads stop₀ wasted₀ shy₀ base₀ bits₀ end₀ bytes₀ tokens₀ cursor₀ stop wasted shy base bits end bytes tokens cursor =
-    Goes text (length text) cursor₀ stop wasted base bits cursor × Found text (reading cursor₀ tokens₀ bytes₀ end₀) stop (reading cursor tokens bytes end)
+Inv-loop text until lone leads stop₀ wasted₀ shy₀ base₀ bits₀ tokens₀ cursor₀ stop wasted shy base bits tokens cursor =
+    Goes text (length text) cursor₀ stop wasted base bits cursor × Going text cursor₀ tokens₀ cursor tokens
 
 abbrev μ-loop : tie.MeasureT-loop
-μ-loop text until lone leads stop₀ wasted₀ shy₀ base₀ bits₀ end₀ bytes₀ tokens₀ cursor₀ stop wasted shy base bits end bytes tokens cursor = length text - cursor
+μ-loop text until lone leads stop₀ wasted₀ shy₀ base₀ bits₀ tokens₀ cursor₀ stop wasted shy base bits tokens cursor = length text - cursor
 
 -- a turn of the loop: where it starts
 module _ (t : tie.In-loop Inv-loop μ-loop) where
@@ -77,32 +76,30 @@ module _ (n : tie.Joined2 Inv-loop μ-loop) where
   moves : (i (n .before .before .before .before .before) < r .end) × (r .end ≤ length (s (n .before .before .before .before .before)))
   moves = let t = n .before .before .before .before .before in goes-moves (s t) _ _ _ _ _ _ (i t) (goes t) (omega arith) (t .loop-test .taken) (n .before .before .before .before .if1 .base) (n .if2 .token) (settled n)
 
-  on : let t = n .before .before .before .before .before in (stop : ℕ) → Spared (length (s t)) stop (n .if2 .wasted) → Goes (s t) (length (s t)) (st t .args .from .cursor) stop (n .if2 .wasted) (n .before .before .before .before .if1 .base) (n .if2 .token .bits) (r .end)
-  on stop p = let t = n .before .before .before .before .before in goes-on (s t) _ _ _ _ _ _ (i t) (goes t) (omega arith) (t .loop-test .taken) (n .before .before .before .before .if1 .base) (n .if2 .token) (settled n) _ _ p
+  on : let t = n .before .before .before .before .before in Goes (s t) (length (s t)) (st t .args .from .cursor) (n .if2 .stop) (n .if2 .wasted) (n .before .before .before .before .if1 .base) (n .if2 .token .bits) (r .end)
+  on = let t = n .before .before .before .before .before in goes-on (s t) _ _ _ _ _ _ (i t) (goes t) (omega arith) (t .loop-test .taken) (n .before .before .before .before .if1 .base) (n .if2 .token) (settled n) _ _ (spared n)
 
-  -- what is found with the token
-  found-with : let t = n .before .before .before .before .before in let v = t .before .loop in
-      Found (s t) (st t .args .from) (v .stop) (reading (i t) (v .tokens) (v .bytes) (v .end)) × (0 < v .stop)
-  found-with = let t = n .before .before .before .before .before in (t .before .loop .inv .1, omega (arith, t .loop-test .taken))
+-- a delimiter
+returns : tie.Need-returns Inv-loop μ-loop
+returns c =
+    let n = c .before .before in
+    let t = n .before .before .before .before .before in
+    let e = going-end (s t) _ _ (i t) _ (t .before .loop .inv .1) (inside t .1) (r n) (settled n .0) (sym (c .before .is-delimiter .ensures) ∙ c .if4 .taken) in
+    record { moved = λ l. omega (arith, goes t .later, moves n); inside = moves n .1; same = e ∙ going-from (s t) (st t .args .from) (st t .pre .1); still = λ l. absurd (omega arith) }
 
+-- any other token
 loop-again : tie.Need-loop-again Inv-loop μ-loop
 loop-again c =
     let n = c .before .before in
     let t = n .before .before .before .before .before in
-    let f = found-with n in
-    (on n 0 (omega arith, λ l. absurd (omega arith)), found-end (s t) (st t .args .from) _ (i t) _ _ _ (f .0) (f .1) (inside t .1) (r n) (settled n .0) (sym (c .before .is-delimiter .ensures) ∙ c .if4 .taken))
+    (on n, going-on (s t) _ _ (i t) _ (t .before .loop .inv .1) (inside t .1) (r n) (settled n .0) (sym (c .before .is-delimiter .ensures) ∙ c .if4 .left))
 
-loop-again-2 : tie.Need-loop-again-2 Inv-loop μ-loop
-loop-again-2 c =
-    let n = c .before .before in
-    let t = n .before .before .before .before .before in
-    let f = found-with n in
-    (on n _ (spared n), found-on (s t) (st t .args .from) _ (i t) _ _ _ (f .0) (f .1) (inside t .1) (r n) (settled n .0) (sym (c .before .is-delimiter .ensures) ∙ c .if4 .left) _)
-
-returns : tie.Need-returns Inv-loop μ-loop
-returns c =
+-- no more tokens, or not now
+returns-2 : tie.Need-returns-2 Inv-loop μ-loop
+returns-2 c =
     let v = c .before .loop .inv in
-    record { moved = goes-moved _ _ _ _ _ _ _ _ (v .0) (c .loop-test .left); inside = v .0 .inside; same = v .1 .same; still = v .1 .still }
+    let a = c .before .before .before .before .before in
+    record { moved = goes-moved _ _ _ _ _ _ _ _ (v .0) (c .loop-test .left); inside = v .0 .inside; same = v .1 .same ∙ going-from _ (a .args .from) (a .pre .1); still = λ l. going-open _ _ _ _ _ (v .1) }
 
 pub read-some-spec : {M : Type 1} → statement M
 read-some-spec =
@@ -111,7 +108,7 @@ read-some-spec =
     Inv-loop
     μ-loop
     (λ c κs. search needs)
-    (λ c. let a = c .before .before .before in (goes-first _ _ _ (a .pre .1 .inside), found-none _ (a .args .from) _ (a .pre .1)))
+    (λ c. let a = c .before .before .before in (goes-first _ _ _ (a .pre .1 .inside), going-first _ (a .args .from) (a .pre .1)))
     (λ c κs. goes (c .before) .inside)
     (λ c κs. let t = c .before .before in (c .before .before .before .before .leads .ensures, st t .pre .0, inside t .1, lefts (c .before)))
     (λ c κs. let t = c .before .before .before .before .before in let p = st t .pre in (p .0, inside t .1, marked-later (s t) _ _ _ (now (st t .args .lone)) (goes t .later) (p .2)))
@@ -119,10 +116,9 @@ read-some-spec =
     (λ c κs. let j = c .before .before .before .before .before .before in let t = j .before in let m = c .taken .ensures (s t) (i t) (st t .pre .0) (inside t .1) (c .before .read .ensures) (lefts j) in omega (arith, goes-moves (s t) _ _ _ _ _ _ (i t) (goes t) (omega arith) (t .loop-test .taken) _ _ m))
     (λ c κs. search needs)
     (λ c. let t = c .before .before .before .before .before .before .before .before .before in omega (arith, c .wasted-by .ensures .1, st t .pre .0, goes-spared (s t) _ _ _ _ _ _ (i t) (goes t) (omega arith) (t .loop-test .taken)))
-    (λ c. let f = found-with c in omega (arith, f .0 .going (f .1) .few, moves c, st (c .before .before .before .before .before) .pre .0))
+    (λ c. let t = c .before .before .before .before .before in omega (arith, t .before .loop .inv .1 .few, moves c, st t .pre .0))
     (λ c κs. search needs)
+    returns
     (λ c. omega (arith, moves (c .before .before)))
     loop-again
-    (λ c. omega (arith, moves (c .before .before)))
-    loop-again-2
-    returns)
+    returns-2)

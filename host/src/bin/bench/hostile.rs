@@ -18,7 +18,7 @@ const LENGTHS: [usize; 13] = [0, 1, 2, 3, 4, 6, 10, 20, 50, 100, 300, 1000, 4000
 type Text = (&'static str, fn(usize) -> String);
 
 #[rustfmt::skip]
-const TEXTS: [Text; 36] = [
+pub const TEXTS: [Text; 36] = [
     ("SQL", sql),
     ("`$a0$a1$a2$`, each tag another", |size| numbered(size, |k| format!("$a{k}"))),
     ("the shortest tags, each another", |size| numbered(size, |k| format!("${}", shortest(k)))),

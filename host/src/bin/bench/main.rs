@@ -14,6 +14,8 @@ mod short;
 #[cfg(all(linked, oracle))]
 mod sql;
 #[cfg(all(linked, oracle))]
+mod statements;
+#[cfg(all(linked, oracle))]
 mod tables;
 #[cfg(all(linked, oracle))]
 mod texts;
@@ -32,6 +34,9 @@ fn main() {
     tables::table(chosen, "Place of the last byte", all, tables::place);
     tables::table(chosen, "Test for UTF-8 alone", first, tables::valid);
     short::table(chosen);
+    statements::early(chosen);
+    statements::none(chosen);
+    statements::walks(chosen);
     tables::growth(chosen);
     hostile::table(chosen);
 }
