@@ -196,7 +196,9 @@ uint64_t giehtamun_place(const uint8_t *text, size_t text_len, size_t offset);
    list's length.
    Reading stops there, so that the call costs what the statement does, however long the text is; only a dollar sign in it may have the rest of
    the text searched. Neither the statement nor the rest is tested for UTF-8: the tokens are those of giehtamun_step, from step to step.
-   The same call on the rest, with text + end and text_len - end, gives the next statement of the text, and so on until nothing is left.
+   The same call on the rest, with text + end and text_len - end, gives the next statement of the text, and so on until nothing is left: the
+   statements are those into which the delimiters of the full list cut the text. A call holds no state: where each of many statements has a
+   dollar sign that begins nothing, a list of the whole text is faster.
    Answers 0, or refuses with 1, end 0 and no tokens. */
 uint64_t giehtamun_first_statement(const uint8_t *text, size_t text_len);
 

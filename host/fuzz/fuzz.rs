@@ -115,11 +115,23 @@ fn places(text: &[u8], r: &mut Random) {
     }
 }
 
+/// The first statement and its text, and those of what is left then, up to 20 times: against the Rust, or the second reading where it is not UTF-8.
+fn statements(text: &[u8]) {
+    let mut rest = text;
+    for _ in 0..20 {
+        let first = std::str::from_utf8(rest).map_or_else(|_| reading::statement(rest, &reading::full(rest)), oracle::first_statement);
+        let answers = [reading::first_statement(rest, first), reading::statement_text(rest, first)];
+        let calls = [Op::FirstStatement, Op::StatementText].map(|op| Call::read(op, 0, rest));
+        compare(&calls, answers.map(|answer| Answer { answer, memory: vec![] }));
+        rest = &rest[first.end..];
+    }
+}
+
 /// All of these, or of a long text one, since the Rust takes the square of its length where it has many dollar signs.
 fn try_text(text: &[u8]) {
     let mut r = Random(seed(text));
     let full = std::str::from_utf8(text).map_or(vec![], oracle::full);
-    let only = (text.len() > 1000).then_some(r.below(4));
+    let only = (text.len() > 1000).then_some(r.below(5));
     let tried = |part| only.is_none_or(|only| only == part);
     if tried(0) {
         whole_lists(text, &full);
@@ -134,6 +146,9 @@ fn try_text(text: &[u8]) {
     }
     if tried(3) {
         masks(text, &full);
+    }
+    if tried(4) {
+        statements(text);
     }
 }
 
