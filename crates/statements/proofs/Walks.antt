@@ -15,85 +15,76 @@ use Rattle.lexer.specs.declared.token.Lexed.{Lexed}
 use Rattle.lexer.specs.Ends.{endsAt}
 use Rattle.lexer.proofs.Ends.{next-is, next-lies}
 use Rattle.statements.specs.declared.Reading.{Reading}
-use Rattle.statements.specs.Walks.{Open, found}
+use Rattle.statements.specs.Walks.{readUpTo, Open, found}
 
 -- So many tokens more before it.
 abbrev plus : ℕ → Statement → Statement
 plus n c = statement (n + c .tokens) (c .bytes) (c .end)
 
-abbrev pub reading : ℕ → ℕ → ℕ → ℕ → Reading
-reading cursor tokens bytes end = record { cursor = cursor; tokens = tokens; bytes = bytes; end = end }
-
 module _ (s : List ℕ) where
   abbrev firstFrom : ℕ → Statement
   firstFrom i = firstIn (length s) (tokensFrom s i)
 
-  -- nothing is left to read
-  pub found-done : (r : Reading) → r .end ≤ r .cursor → found s r ≡ statement (r .tokens) (r .bytes) (r .end)
-  unfolding found
-  found-done r h = rw (le-ltb (r .cursor) (r .end) h)
-
   -- no delimiter is read yet
-  found-open : (i n : ℕ) → i ≤ length s → found s (reading i n (length s) (length s)) ≡ plus n (firstFrom i)
+  found-open : (r : Reading) → Open s r → found s r ≡ plus (r .tokens) (firstFrom (r .cursor))
   unfolding found
-  found-open i n l = go (decLt i (length s))
-    where
-      go : Dec (i < length s) → found s (reading i n (length s) (length s)) ≡ plus n (firstFrom i)
-      go (yes h) = rw (lt-ltb i (length s) h)
-      go (no h) =
-          let z : n + 0 ≡ n = omega arith in
-          rw (le-ltb i (length s) (omega arith), from-end s i (omega arith), first-none (length s)) (ap (λ (m : ℕ). statement m (length s) (length s)) (sym z))
+  found-open r o = let l = o .inside in let e = o .bytes in rw (le-ltb (r .bytes) (r .cursor) (omega arith))
 
-  pub found-first : found s (reading 0 0 (length s) (length s)) ≡ firstIn (length s) (tokens s)
+  -- a delimiter was read
+  found-past : (r : Reading) → r .bytes < r .cursor → found s r ≡ statement (r .tokens) (r .bytes) (r .cursor)
+  unfolding found
+  found-past r h = rw (lt-ltb (r .bytes) (r .cursor) h)
+
+  -- nothing is left to read
+  pub found-done : (r : Reading) → r .bytes ≤ r .cursor → (r .cursor ≤ r .bytes → Open s r) → found s r ≡ statement (r .tokens) (r .bytes) (r .cursor)
+  found-done r h still = go (decLt (r .bytes) (r .cursor))
+    where
+      go : Dec (r .bytes < r .cursor) → found s r ≡ statement (r .tokens) (r .bytes) (r .cursor)
+      go (yes l) = found-past r l
+      go (no l) =
+          let o = still (omega arith) in
+          let e = o .bytes in
+          let end : length s ≡ r .cursor = omega arith in
+          let n : r .tokens + 0 ≡ r .tokens = omega arith in
+          found-open r o
+          ∙ ap (λ (ts : List Token). plus (r .tokens) (firstIn (length s) ts)) (from-end s (r .cursor) (omega arith))
+          ∙ ap (plus (r .tokens)) (first-none (length s))
+          ∙ ap (λ (m : ℕ). statement m (length s) (length s)) n
+          ∙ ap₂ (statement (r .tokens)) (sym e) end
+
+  pub found-first : found s (readUpTo 0 0 (length s)) ≡ firstIn (length s) (tokens s)
   found-first =
       let z : 0 + firstFrom 0 .tokens ≡ firstFrom 0 .tokens = omega arith in
-      found-open 0 0 (omega arith) ∙ ap (λ (m : ℕ). statement m (firstFrom 0 .bytes) (firstFrom 0 .end)) z ∙ ap (firstIn (length s)) (sym (from-start s))
+      found-open (readUpTo 0 0 (length s)) (record { inside = omega arith; few = omega arith; bytes = refl })
+      ∙ ap (λ (m : ℕ). statement m (firstFrom 0 .bytes) (firstFrom 0 .end)) z
+      ∙ ap (firstIn (length s)) (sym (from-start s))
 
   -- a token is read
-  module _ (i n : ℕ) (h : i < length s) (x : Lexed) (e : x ≡ endsAt i (lexeme (afterDotAt s i) (drop i s))) where
-    next : tokensFrom s i ≡ token (x .kind) i (x .end) ∷ tokensFrom s (x .end)
-    next = from-step s i h ∙ ap (λ (t : Token). t ∷ tokensFrom s (t .end)) (next-is s i x e)
+  module _ (r : Reading) (o : Open s r) (h : r .cursor < length s) (x : Lexed) (e : x ≡ endsAt (r .cursor) (lexeme (afterDotAt s (r .cursor)) (drop (r .cursor) s))) where
+    abbrev t : Token
+    t = token (x .kind) (r .cursor) (x .end)
 
-    pub read-delimiter : delimiter (x .kind) ≡ true → found s (reading (x .end) (n + 1) i (x .end)) ≡ found s (reading i n (length s) (length s))
-    read-delimiter d =
-        found-done (reading (x .end) (n + 1) i (x .end)) (omega arith)
-        ∙ sym (found-open i n (omega arith) ∙ ap (λ (ts : List Token). plus n (firstIn (length s) ts)) next ∙ ap (plus n) (first-here (length s) (token (x .kind) i (x .end)) (tokensFrom s (x .end)) d))
+    before : (c : Statement) → firstIn (length s) (t ∷ tokensFrom s (x .end)) ≡ c → found s r ≡ plus (r .tokens) c
+    before c f =
+        found-open r o
+        ∙ ap (λ (ts : List Token). plus (r .tokens) (firstIn (length s) ts)) (from-step s (r .cursor) h ∙ ap (λ (t : Token). t ∷ tokensFrom s (t .end)) (next-is s (r .cursor) x e))
+        ∙ ap (plus (r .tokens)) f
 
-    pub read-other : delimiter (x .kind) ≡ false → found s (reading (x .end) (n + 1) (length s) (length s)) ≡ found s (reading i n (length s) (length s))
+    lies : (r .cursor < x .end) × (x .end ≤ length s)
+    lies = next-lies s (r .cursor) x h e
+
+    -- a delimiter, with which the walk ends,
+    pub read-delimiter : delimiter (x .kind) ≡ true → found s (readUpTo (x .end) (r .tokens + 1) (r .cursor)) ≡ found s r
+    read-delimiter d = found-past (readUpTo (x .end) (r .tokens + 1) (r .cursor)) (lies .0) ∙ sym (before (statement 1 (r .cursor) (x .end)) (first-here (length s) t (tokensFrom s (x .end)) d))
+
+    -- or any other
+    pub still-open : Open s (readUpTo (x .end) (r .tokens + 1) (r .bytes))
+    still-open = let k = o .few in let l = lies .0 in record { inside = lies .1; few = omega arith; bytes = o .bytes }
+
+    pub read-other : delimiter (x .kind) ≡ false → found s (readUpTo (x .end) (r .tokens + 1) (r .bytes)) ≡ found s r
     read-other d =
         let c = firstFrom (x .end) in
-        let z : n + 1 + c .tokens ≡ n + suc (c .tokens) = omega arith in
-        found-open (x .end) (n + 1) (next-lies s i x h e .1)
+        let z : r .tokens + 1 + c .tokens ≡ r .tokens + suc (c .tokens) = omega arith in
+        found-open (readUpTo (x .end) (r .tokens + 1) (r .bytes)) still-open
         ∙ ap (λ (m : ℕ). statement m (c .bytes) (c .end)) z
-        ∙ sym (found-open i n (omega arith) ∙ ap (λ (ts : List Token). plus n (firstIn (length s) ts)) next ∙ ap (plus n) (first-later (length s) (token (x .kind) i (x .end)) (tokensFrom s (x .end)) d))
-
--- What a walk carries while it goes on: no delimiter was read, and the statement is the same.
-pub record Going (s : List ℕ) (cursor₀ tokens₀ cursor tokens : ℕ) : Type 0 where
-  pub inside : cursor ≤ length s
-  pub few : tokens ≤ cursor
-  pub same : found s (reading cursor tokens (length s) (length s)) ≡ found s (reading cursor₀ tokens₀ (length s) (length s))
-
-module _ (s : List ℕ) (r : Reading) (o : Open s r) where
-  pub going-first : Going s (r .cursor) (r .tokens) (r .cursor) (r .tokens)
-  going-first = record { inside = o .inside; few = o .few; same = refl }
-
-  -- what it began with
-  pub going-from : found s (reading (r .cursor) (r .tokens) (length s) (length s)) ≡ found s r
-  going-from = ap (found s) (ap₂ (reading (r .cursor) (r .tokens)) (sym (o .bytes)) (sym (o .end)))
-
-module _ (s : List ℕ) (cursor₀ tokens₀ i n : ℕ) (g : Going s cursor₀ tokens₀ i n) where
-  -- Nothing is left, or it pays to look ahead.
-  pub going-open : Open s (reading i n (length s) (length s))
-  going-open = record { inside = g .inside; few = g .few; bytes = refl; end = refl }
-
-  module _ (h : i < length s) (x : Lexed) (e : x ≡ endsAt i (lexeme (afterDotAt s i) (drop i s))) where
-    -- A turn reads a delimiter, and the walk ends,
-    pub going-end : delimiter (x .kind) ≡ true → found s (reading (x .end) (n + 1) i (x .end)) ≡ found s (reading cursor₀ tokens₀ (length s) (length s))
-    going-end d = read-delimiter s i n h x e d ∙ g .same
-
-    -- or any other token.
-    pub going-on : delimiter (x .kind) ≡ false → Going s cursor₀ tokens₀ (x .end) (n + 1)
-    going-on d =
-        let k = g .few in
-        let m = next-lies s i x h e in
-        record { inside = m .1; few = omega arith; same = read-other s i n h x e d ∙ g .same }
+        ∙ sym (before (oneMore c) (first-later (length s) t (tokensFrom s (x .end)) d))

@@ -17,7 +17,7 @@ ghost use Rattle.rules.specs.Limits.{maxQuerySize};
 ghost use Rattle.rules.specs.Statements.{delimiter, firstStatement};
 ghost use Rattle.ahead.specs.Marks.{Marked};
 ghost use Rattle.statements.specs.First.{first};
-ghost use Rattle.statements.specs.Walks.{Open, ReadOn};
+ghost use Rattle.statements.specs.Walks.{readUpTo, Open, ReadOn};
 
 // What the first statement is: document 01's number, the tokens read, its delimiter among them, the bytes that stand before the delimiter, and
 // where the delimiter ends.
@@ -28,12 +28,22 @@ pub struct First {
     pub end: usize,
 }
 
-// How far a text is read: so many tokens, up to a cursor. Until a delimiter is read the statement's bytes and its end are the text's length.
+// How far a text is read: so many tokens, up to a cursor. The bytes are what stands before a delimiter that was read last, and so lie before the
+// cursor; until one is read they are all of the text.
 pub struct Reading {
     pub cursor: usize,
     pub tokens: usize,
     pub bytes: usize,
-    pub end: usize,
+}
+
+fn read_up_to(cursor: usize, tokens: usize, bytes: usize) -> Reading
+    ensures { λ r. ⌜ r ≡ readUpTo cursor tokens bytes ⌝ }
+{
+    Reading {
+        cursor,
+        tokens,
+        bytes,
+    }
 }
 
 fn is_delimiter(kind: u32) -> bool
@@ -75,20 +85,10 @@ fn read_some(text: &[u8], from: Reading, until: usize, lone: &[u64]) -> Reading
         bits = token.bits;
         tokens += 1;
         if is_delimiter(token.kind) {
-            return Reading {
-                cursor,
-                tokens,
-                bytes: start,
-                end: cursor,
-            };
+            return read_up_to(cursor, tokens, start);
         }
     }
-    Reading {
-        cursor,
-        tokens,
-        bytes: text.len(),
-        end: text.len(),
-    }
+    read_up_to(cursor, tokens, text.len())
 }
 
 // Looks ahead, and reads on.
@@ -118,17 +118,16 @@ pub fn first_statement(text: &[u8]) -> First
         cursor: 0,
         tokens: 0,
         bytes: size,
-        end: size,
     };
     let no_bits = [0u64; 1];
     let mut at = read_some(text, none, 0, &no_bits);
-    while at.cursor < at.end {
+    while at.cursor < at.bytes {
         at = read_more(text, at);
     }
     First {
         number: 0,
         tokens: at.tokens,
         bytes: at.bytes,
-        end: at.end,
+        end: at.cursor,
     }
 }

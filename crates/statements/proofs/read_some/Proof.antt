@@ -13,13 +13,16 @@ use Rattle.ahead.proofs.Bits.{marked-later}
 use Rattle.edges.specs.declared.Next.{Next}
 use Rattle.edges.specs.Left.{Left, Taken, Spared, Goes}
 use Rattle.edges.proofs.Going.{goes-first, goes-inside, goes-spared, goes-moves, goes-on, goes-moved}
-use Rattle.statements.proofs.Walks.{Going, going-first, going-from, going-open, going-end, going-on}
+use Rattle.statements.specs.Walks.{readUpTo, Open, found, ReadOn}
+use Rattle.statements.proofs.Walks.{read-delimiter, read-other, still-open}
 use Rattle.statements.proofs.read_some.Statement.{statement}
 use Rattle.statements.proofs.read_some.Tie as tie
 
 abbrev Inv-loop : tie.InvT-loop
 Inv-loop text until lone leads stop₀ wasted₀ shy₀ base₀ bits₀ tokens₀ cursor₀ stop wasted shy base bits tokens cursor =
-    Goes text (length text) cursor₀ stop wasted base bits cursor × Going text cursor₀ tokens₀ cursor tokens
+    Goes text (length text) cursor₀ stop wasted base bits cursor
+    × Open text (readUpTo cursor tokens (length text))
+    × (found text (readUpTo cursor tokens (length text)) ≡ found text (readUpTo cursor₀ tokens₀ (length text)))
 
 abbrev μ-loop : tie.MeasureT-loop
 μ-loop text until lone leads stop₀ wasted₀ shy₀ base₀ bits₀ tokens₀ cursor₀ stop wasted shy base bits tokens cursor = length text - cursor
@@ -79,27 +82,37 @@ module _ (n : tie.Joined2 Inv-loop μ-loop) where
   on : let t = n .before .before .before .before .before in Goes (s t) (length (s t)) (st t .args .from .cursor) (n .if2 .stop) (n .if2 .wasted) (n .before .before .before .before .if1 .base) (n .if2 .token .bits) (r .end)
   on = let t = n .before .before .before .before .before in goes-on (s t) _ _ _ _ _ _ (i t) (goes t) (omega arith) (t .loop-test .taken) (n .before .before .before .before .if1 .base) (n .if2 .token) (settled n) _ _ (spared n)
 
+-- what a text is read up to, with no delimiter, is what it was read up to at first
+began : (t : tie.Start Inv-loop μ-loop) → let f = t .args .from in let x = now (t .args .text) in found x (readUpTo (f .cursor) (f .tokens) (length x)) ≡ found x f
+began t = ap (λ (b : ℕ). found (now (t .args .text)) (readUpTo (t .args .from .cursor) (t .args .from .tokens) b)) (sym (t .pre .1 .bytes))
+
 -- a delimiter
 returns : tie.Need-returns Inv-loop μ-loop
 returns c =
-    let n = c .before .before in
+    let n = c .before .before .before in
     let t = n .before .before .before .before .before in
-    let e = going-end (s t) _ _ (i t) _ (t .before .loop .inv .1) (inside t .1) (r n) (settled n .0) (sym (c .before .is-delimiter .ensures) ∙ c .if4 .taken) in
-    record { moved = λ l. omega (arith, goes t .later, moves n); inside = moves n .1; same = e ∙ going-from (s t) (st t .args .from) (st t .pre .1); still = λ l. absurd (omega arith) }
+    let v = t .before .loop .inv in
+    let e = read-delimiter (s t) (readUpTo (i t) (t .before .loop .tokens) (length (s t))) (v .1) (inside t .1) (r n) (settled n .0) (sym (c .before .before .is-delimiter .ensures) ∙ c .before .if4 .taken) in
+    let m = moves n in
+    subst (ReadOn (s t) (st t .args .from)) (sym (c .read-up-to .ensures))
+    (record { moved = λ l. omega (arith, goes t .later, m); inside = m .1; same = e ∙ v .2 ∙ began (st t); still = λ l. absurd (omega (arith, m)) })
 
 -- any other token
 loop-again : tie.Need-loop-again Inv-loop μ-loop
 loop-again c =
     let n = c .before .before in
     let t = n .before .before .before .before .before in
-    (on n, going-on (s t) _ _ (i t) _ (t .before .loop .inv .1) (inside t .1) (r n) (settled n .0) (sym (c .before .is-delimiter .ensures) ∙ c .if4 .left))
+    let v = t .before .loop .inv in
+    let p = readUpTo (i t) (t .before .loop .tokens) (length (s t)) in
+    (on n, still-open (s t) p (v .1) (inside t .1) (r n) (settled n .0), read-other (s t) p (v .1) (inside t .1) (r n) (settled n .0) (sym (c .before .is-delimiter .ensures) ∙ c .if4 .left) ∙ v .2)
 
 -- no more tokens, or not now
 returns-2 : tie.Need-returns-2 Inv-loop μ-loop
 returns-2 c =
-    let v = c .before .loop .inv in
-    let a = c .before .before .before .before .before in
-    record { moved = goes-moved _ _ _ _ _ _ _ _ (v .0) (c .loop-test .left); inside = v .0 .inside; same = v .1 .same ∙ going-from _ (a .args .from) (a .pre .1); still = λ l. going-open _ _ _ _ _ (v .1) }
+    let v = c .before .before .loop .inv in
+    let a = c .before .before .before .before .before .before in
+    subst (ReadOn (now (a .args .text)) (a .args .from)) (sym (c .read-up-to2 .ensures))
+    (record { moved = goes-moved _ _ _ _ _ _ _ _ (v .0) (c .before .loop-test .left); inside = v .0 .inside; same = v .2 ∙ began a; still = λ l. v .1 })
 
 pub read-some-spec : {M : Type 1} → statement M
 read-some-spec =
@@ -108,7 +121,7 @@ read-some-spec =
     Inv-loop
     μ-loop
     (λ c κs. search needs)
-    (λ c. let a = c .before .before .before in (goes-first _ _ _ (a .pre .1 .inside), going-first _ (a .args .from) (a .pre .1)))
+    (λ c. let a = c .before .before .before in let o = a .pre .1 in (goes-first _ _ _ (o .inside), record { inside = o .inside; few = o .few; bytes = refl }, refl))
     (λ c κs. goes (c .before) .inside)
     (λ c κs. let t = c .before .before in (c .before .before .before .before .leads .ensures, st t .pre .0, inside t .1, lefts (c .before)))
     (λ c κs. let t = c .before .before .before .before .before in let p = st t .pre in (p .0, inside t .1, marked-later (s t) _ _ _ (now (st t .args .lone)) (goes t .later) (p .2)))
@@ -118,7 +131,9 @@ read-some-spec =
     (λ c. let t = c .before .before .before .before .before .before .before .before .before in omega (arith, c .wasted-by .ensures .1, st t .pre .0, goes-spared (s t) _ _ _ _ _ _ (i t) (goes t) (omega arith) (t .loop-test .taken)))
     (λ c. let t = c .before .before .before .before .before in omega (arith, t .before .loop .inv .1 .few, moves c, st t .pre .0))
     (λ c κs. search needs)
+    (λ c κs. search needs)
     returns
     (λ c. omega (arith, moves (c .before .before)))
     loop-again
+    (λ c κs. search needs)
     returns-2)
