@@ -1,7 +1,7 @@
 /* Giehtamun: ClickHouse's SQL tokenizer as C functions. Each function is proved to answer what its comment says; the inline helpers are
    plain C, and tested. Buffers that are lent to one call must not overlap one another where one of them is written.
-   Lists, masked copies and first statements take at most 38 KB of stack, and 824 KB where a text has many dollar signs that begin nothing; the
-   others under 4 KB.
+   Lists, masked copies, first statements and their texts take at most 38 KB of stack, and 824 KB where a text has many dollar signs that begin
+   nothing; the others under 4 KB.
 
    A text is any bytes. A token has a kind, a start and an end, both byte offsets into the text; it ends before the byte at its end. A
    packed list holds GIEHTAMUN_TOKEN_BYTES bytes a token: kind, start, end, each 32 bits, low byte first. A list's room is its length
@@ -194,11 +194,12 @@ uint64_t giehtamun_place(const uint8_t *text, size_t text_len, size_t offset);
    backslash with one G or g), or with the text if there is none. A delimiter inside a string, a quoted identifier, a comment or a
    here-document is no token, and ends nothing. The tokens read are the place of that delimiter in the text's full list, counted from one, or the
    list's length.
-   Reading stops there, so that the call costs what the statement does, however long the text is; only a dollar sign in it may have the rest of
-   the text searched. Neither the statement nor the rest is tested for UTF-8: the tokens are those of giehtamun_step, from step to step.
+   Reading stops there, so that the call costs what the statement does and not what the text does; only a dollar sign in it may have the rest
+   of the text searched. Neither the statement nor the rest is tested for UTF-8: the tokens are those of giehtamun_step, from step to step.
    The same call on the rest, with text + end and text_len - end, gives the next statement of the text, and so on until nothing is left: the
-   statements are those into which the delimiters of the full list cut the text. A call holds no state: where each of many statements has a
-   dollar sign that begins nothing, a list of the whole text is faster.
+   statements are those into which the delimiters of the full list cut the text. But a call holds no state: where each of many statements has a
+   dollar sign that begins nothing, each call searches all that is left, and the walk takes the square of the text's length, minutes for
+   1,000,000 bytes. Then list the text once, and cut the list after each token of kind 15 or 38. Text that is not UTF-8 has no list.
    Answers 0, or refuses with 1, end 0 and no tokens. */
 uint64_t giehtamun_first_statement(const uint8_t *text, size_t text_len);
 

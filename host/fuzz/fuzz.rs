@@ -118,7 +118,10 @@ fn places(text: &[u8], r: &mut Random) {
 /// The first statement and its text, and those of what is left then, up to 20 times: against the Rust, or the second reading where it is not UTF-8.
 fn statements(text: &[u8]) {
     let mut rest = text;
-    for _ in 0..20 {
+    for turn in 0..20 {
+        if turn > 0 && rest.is_empty() {
+            break;
+        }
         let first = std::str::from_utf8(rest).map_or_else(|_| reading::statement(rest, &reading::full(rest)), oracle::first_statement);
         let answers = [reading::first_statement(rest, first), reading::statement_text(rest, first)];
         let calls = [Op::FirstStatement, Op::StatementText].map(|op| Call::read(op, 0, rest));

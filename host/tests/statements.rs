@@ -411,17 +411,19 @@ mod unread {
         assert_eq!(unsafe { mprotect(memory.add(PAGES), bytes - PAGES, NOTHING) }, 0);
         let mut r = Random(0x4E3F2A9B7C1D8065);
         let n = texts::how_many(5_000);
+        let mut tried = 0;
         for i in 0..n {
             let text = if i % 2 == 0 { texts::stretches(&mut r) } else { texts::random(&mut r) };
-            // A `$` may have the rest searched, and a literal that is not closed goes on to the end.
+            // A `$` may have the rest searched.
             let mut alone = text.replace('$', "+").into_bytes();
             alone.truncate(first(&alone).before);
-            let unclosed = full(&alone).last().is_some_and(|last| (40..=43).contains(&last.0) || last.0 == 2);
-            alone.extend(if unclosed { &b""[..] } else { r.one_of(&DELIMITERS).as_bytes() });
+            alone.extend(r.one_of(&DELIMITERS).as_bytes());
             let known = first(&alone);
+            // A literal that is not closed has taken the delimiter, and goes on to the end.
             if known.before == known.end {
                 continue;
             }
+            tried += 1;
             let readable = [&alone[..], &[b' '; BLOCK]].concat();
             let (first, its_text) = unsafe {
                 let start = memory.add(PAGES - readable.len());
@@ -431,7 +433,8 @@ mod unread {
             let want = (reading::first_statement(&alone, known), reading::statement_text(&alone, known));
             assert_eq!((first, its_text), want, "{}", alone.escape_ascii());
         }
-        println!("{n} random statements before a million bytes that cannot be read");
+        assert!(tried > n / 2, "{tried} of {n} statements");
+        println!("{tried} random statements before a million bytes that cannot be read");
     }
 }
 

@@ -13,8 +13,8 @@
 //! # Ok::<(), giehtamun::Refusal>(())
 //! ```
 //!
-//! Lists, masked copies and first statements take at most 38 KB of the stack, and 824 KB where a text has many dollar signs that begin nothing; all
-//! else takes under 4 KB.
+//! Lists, masked copies and statements take at most 38 KB of the stack, and 824 KB where a text has many dollar signs that begin nothing; all else
+//! takes under 4 KB.
 #![deny(missing_docs)]
 
 mod c;
@@ -405,8 +405,8 @@ pub struct First<'a> {
     pub part: &'a [u8],
 }
 
-/// The first statement of a text. What follows it is not read, so that it costs what the statement does and not what the text does; only a dollar
-/// sign in it may have the rest of the text searched.
+/// The first statement of a text. What follows it is not lexed, so that it costs what the statement does and not what the text does; only a dollar
+/// sign in it may have the rest of the text searched. The statement is read twice, for its end and for its part.
 ///
 /// A delimiter inside a string, a comment or a here-document is none. Nothing is tested for UTF-8: the tokens are those of [`steps`].
 ///
@@ -428,8 +428,9 @@ pub fn first_statement(text: &[u8]) -> Result<First<'_>, Refusal> {
 /// The statements of a text one after another, each by a [`first_statement`] of what is left, until nothing is. They are those into which the
 /// delimiters of the text's list cut it, and nothing is lost: each starts where the one before it ends, and the last ends with the text.
 ///
-/// So what stands between two delimiters is a statement even if it is empty or blank, and so is a line end after the last one. Each costs what it is
-/// long, but a dollar sign in it may have the rest of the text searched. Where such searches become many, what is left is listed once, if it is UTF-8.
+/// So what stands between two delimiters is a statement even if it is empty or blank, and so is a line end after the last one. Each costs what a
+/// [`first_statement`] does. Where dollar signs may have had what is left searched again and again, it is listed once, if it is UTF-8; if it is not, a
+/// script with many dollar signs that begin nothing may take the square of its length.
 ///
 /// ```
 /// use giehtamun::statements;
@@ -456,7 +457,7 @@ pub fn statements(text: &[u8]) -> Result<Statements<'_>, Refusal> {
 pub struct Statements<'a> {
     text: &'a [u8],
     start: usize,
-    /// So many bytes at most were searched for the end of what a dollar sign began.
+    /// The bytes that were searched if each statement with a dollar sign had what was left searched once.
     searched: usize,
     /// The tokens that are left, and the offset that theirs are counted from.
     listed: Option<(usize, std::vec::IntoIter<Token>)>,

@@ -82,7 +82,7 @@ module _ (s : List ℕ) where
         let e : length s ≡ i + length (drop i s) = let k = length-drop i s in omega arith in
         ap₂ firstIn e rest-tokens ∙ first-moved i (length (drop i s)) (tokens (drop i s))
 
-    -- It ends in the text, and so does what it is moved from.
+    -- It ends no earlier than it begins, and in the text.
     pub next-lies : (i ≤ firstFrom i .end) × (firstFrom i .end ≤ length s)
     next-lies = let f = first-lies i (tokensFrom s i) (length s) (tiles-from s i l) in (omega (arith, f .few), f .high)
 
@@ -130,6 +130,22 @@ module _ (s : List ℕ) (l : length s ≤ maxQuerySize) where
         ∙ ap {B = List Statement} (λ (t : List ℕ). shifted i c ∷ walk n (i + c .end) t) (drop-drop (c .end) i s)
         ∙ ap {B = List Statement} (λ (c : Statement). c ∷ walk n (c .end) (drop (c .end) s)) (sym here)
 
+    -- it has a byte at least
+    first-moves : i < firstFrom s i .end
+    first-moves = go (delimiter (tokenAt s i .kind)) refl
+      where
+        t : Token
+        t = tokenAt s i
+
+        later : i < t .end
+        later = step-fits s i h .1
+
+        go : (b : Bool) → delimiter (t .kind) ≡ b → i < firstFrom s i .end
+        go true e = rw (from-step s i h, first-here (length s) t (tokensFrom s (t .end)) e) later
+        go false e =
+            let f = first-lies (t .end) (tokensFrom s (t .end)) (length s) (tiles-from s (t .end) (step-fits s i h .2)) in
+            rw (from-step s i h, first-later (length s) t (tokensFrom s (t .end)) e) (omega (arith, later, f .few))
+
     cut-turn : cut (suc n) (length s) (tokensFrom s i) ≡ firstFrom s i ∷ cut n (length s) (tokensFrom s (firstFrom s i .end))
     cut-turn =
         let some : length (tokensFrom s i) ≡ suc (length (tokensFrom s (tokenAt s i .end))) = ap length (from-step s i h) in
@@ -149,3 +165,22 @@ module _ (s : List ℕ) (l : length s ≤ maxQuerySize) where
 
   pub walked : (n : ℕ) → walk n 0 s ≡ cut n (length s) (tokens s)
   walked n = walk-by n 0 (omega arith) (inl refl) ∙ ap (cut n (length s)) (sym (from-start s))
+
+  -- With as many calls as the text has bytes nothing is left: the last statement ends with the text.
+  abbrev pub endOf : ℕ → List Statement → ℕ
+  endOf at [] = at
+  endOf at (c ∷ cs) = endOf (c .end) cs
+
+  ends-by : (n i : ℕ) → length s ≤ i + n → i ≤ length s → Begins s i → endOf i (walk n i (drop i s)) ≡ length s
+  unfolding walk
+  ends-by zero i f m b = omega arith
+  ends-by (suc n) i f m b = go (decLt i (length s)) (λ j g k c. ends-by n j g k c)
+    where
+      go : Dec (i < length s) → ((j : ℕ) → length s ≤ j + n → j ≤ length s → Begins s j → endOf j (walk n j (drop j s)) ≡ length s) → endOf i (walk (suc n) i (drop i s)) ≡ length s
+      go (no h) ih = rw (drop-of-length-le s (let z : length s ≤ i = omega arith in z), walk) (omega arith)
+      go (yes h) ih =
+          let e = firstFrom s i .end in
+          ap (endOf i) (walk-turn n i m b h) ∙ ih e (let l = first-moves n i m b h in omega arith) (next-lies s i m b .1) (goes-on s i m .begins)
+
+  pub walk-ends : endOf 0 (walk (length s) 0 s) ≡ length s
+  walk-ends = ends-by (length s) 0 (omega arith) (omega arith) (inl refl)

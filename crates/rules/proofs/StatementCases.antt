@@ -14,4 +14,4 @@ use Rattle.rules.specs.StatementCases.{AllFirst, statementCases}
 
 pub worked : AllFirst statementCases
 unfolding formed begun codeOf charOf charsAfter whiteSpaceTable alphabeticTable numericTable inRanges whiteSpace alphabetic numeric alphanumeric run commentBody single pair operator quotedBody tagOf begins find hereDoc rule read lexemeOf tokensAfter firstIn
-worked = (refl, (refl, (refl, (refl, (refl, (refl, (refl, (refl, (refl, (refl, (refl, tt)))))))))))
+worked = (refl, (refl, (refl, (refl, (refl, (refl, (refl, (refl, (refl, (refl, (refl, (refl, tt))))))))))))

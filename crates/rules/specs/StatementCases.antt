@@ -1,4 +1,4 @@
--- Worked cases of document 02's #102: of each of some texts the tokens read, the bytes before the delimiter, and where the delimiter ends.
+-- Worked cases for document 02's #102: of each of some texts the tokens read, the bytes before the delimiter, and where the delimiter ends.
 use Prim.Native.Nat.{ℕ}
 use mathlib.Core.Path.{_≡_}
 use mathlib.Core.List.{List, [], _∷_}
@@ -24,12 +24,17 @@ case text read bytes end = record { text = text; statement = statement read byte
 abbrev a : ℕ
 a = 0x61
 
+abbrev space : ℕ
+space = 0x20
+
 abbrev pub statementCases : List StatementCase
 statementCases =
     -- an empty text
     case [] 0 0 0
     -- `a`
     ∷ case (a ∷ []) 1 1 1
+    -- `a ;`
+    ∷ case (a ∷ space ∷ semicolon ∷ []) 3 2 3
     -- `a;a;`
     ∷ case (a ∷ semicolon ∷ a ∷ semicolon ∷ []) 2 1 2
     -- `;`

@@ -46,7 +46,7 @@ firstStatement text =
 abbrev pub shifted : ℕ → Statement → Statement
 shifted k c = statement (c .tokens) (k + c .bytes) (k + c .end)
 
--- "From the answer's end, the same call on the rest of the text": at most n statements of a text that stands at an offset, until nothing is left.
+-- From a statement's end on, the same call on the rest: at most n statements of a text that stands at an offset, until nothing is left.
 unfoldable pub walk : ℕ → ℕ → List ℕ → List Statement
 walk zero at s = []
 walk (suc n) at s =
