@@ -15,7 +15,7 @@ use Rattle.rules.specs.Widths.{numberEnd, Fits, FitsExtra, FitsHalves}
 use Rattle.rules.specs.Tokens.{Token, tokens, afterDotAt, tokenAt}
 use Rattle.rules.specs.Listing.{lean, only, leanKeeps, leanUpToKeeps, startsBefore, wholeList, listUpTo, room}
 use Rattle.rules.specs.Answers.{Done, TooLong, NotUtf8, OtherLength, NoPart, tooLong, beyond, noPart, noMode, Written, refused, stored, tooLongList, listing, listingUpTo, step, Part, refusedPart, partOf, tokenText, shownText, maskedCopy, Placed, placeAt}
-use Rattle.rules.specs.Statements.{First, firstIn, firstStatement}
+use Rattle.rules.specs.Statements.{First, firstStatement}
 use Rattle.rules.proofs.Tests.{cond-ind}
 use Rattle.rules.proofs.Decoding.{valid-most}
 use Rattle.rules.proofs.Edges.{tiles, tiles-count}

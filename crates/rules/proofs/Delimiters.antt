@@ -2,7 +2,6 @@
 use Prim.Native.Nat.{ℕ, zero, suc, _+_, _≤_, _<_}
 use native.Mathlib.Omega.{arith}
 use native.Mathlib.Decide.{decLt}
-use borrow.Author.Tests.{ne-eqb}
 use mathlib.Core.Path.{_≡_, refl, sym, ap, _∙_}
 use mathlib.Core.Logic.{_⊎_, inl, inr}
 use mathlib.Core.List.{List, [], _∷_}
@@ -13,7 +12,6 @@ use lib.Seq.{getD-drop}
 use native.Mathlib.Nat.{add-zero}
 use Rattle.rules.specs.Utf8.{Char, width, charAt, chars}
 use Rattle.rules.specs.Characters.{dot, semicolon, backslash, capitalG, smallG}
-use Rattle.rules.specs.Kinds.{Spaceship}
 use Rattle.rules.specs.Lexeme.{Lexeme, is, first, two}
 use Rattle.rules.specs.Operators.{single, pair, spaceship, operator}
 use Rattle.rules.specs.Tokens.{Rule, others, rule, read, lexemeOf, lexeme, isDot, afterDotAt, tokenAt}

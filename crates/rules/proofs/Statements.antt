@@ -1,6 +1,6 @@
 -- #102: the first statement. Its numbers are those of the first delimiter in the full list, also in the list that a listing stores.
 -- Assumes nothing.
-use Prim.Native.Nat.{ℕ, zero, suc, _+_, _-_, _^_, _≤_, _<_}
+use Prim.Native.Nat.{ℕ, zero, suc, _+_, _-_, _≤_, _<_}
 use native.Mathlib.Omega.{arith}
 use native.Mathlib.Decide.{decLt}
 use mathlib.Core.Path.{_≡_, refl, sym, ap, _∙_, subst}
@@ -13,7 +13,7 @@ use Rattle.rules.specs.Utf8.{valid}
 use Rattle.rules.specs.Limits.{maxQuerySize}
 use Rattle.rules.specs.Tokens.{Token, token, tokens, tokensFrom, afterDotAt, tokenAt}
 use Rattle.rules.specs.Listing.{full, wholeList, pack, unpack, room}
-use Rattle.rules.specs.Answers.{Done, TooLong, Written, filled, stored, listing}
+use Rattle.rules.specs.Answers.{Done, TooLong, filled, stored, listing}
 use Rattle.rules.specs.Statements.{delimiter, Statement, statement, oneMore, firstIn, firstStatement}
 use Rattle.rules.proofs.KnownKinds.{kind-known}
 use Rattle.rules.proofs.Edges.{Tiles, tiles-le, from-end, from-step, from-start, step-fits}

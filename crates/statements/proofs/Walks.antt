@@ -7,7 +7,7 @@ use mathlib.Core.List.{List, _∷_}
 use mathlib.Core.Bool.{true, false}
 use lib.ListN.{length, drop}
 use borrow.Author.Tests.{lt-ltb, le-ltb}
-use Rattle.rules.specs.Tokens.{Token, token, lexeme, tokens, tokensFrom, afterDotAt, tokenAt}
+use Rattle.rules.specs.Tokens.{Token, token, lexeme, tokens, tokensFrom, afterDotAt}
 use Rattle.rules.specs.Statements.{delimiter, Statement, statement, oneMore, firstIn}
 use Rattle.rules.proofs.Edges.{from-end, from-start, from-step}
 use Rattle.rules.proofs.Statements.{first-none, first-here, first-later}

@@ -1,6 +1,6 @@
 -- `statements::first_statement` meets its contract. The invariant: what is found with what is left to read is the first statement. The measure is what is
 -- left of the text. Assumes nothing.
-use Prim.Native.Nat.{_-_, _≤_, _<_}
+use Prim.Native.Nat.{_-_, _≤_}
 use native.Mathlib.Omega.{arith}
 use mathlib.Core.Path.{_≡_, refl, sym, ap, _∙_}
 use denote.Ref.{now}
@@ -32,6 +32,14 @@ read-more-requires c κs =
     let a = c .before .before .before .before .before in
     (omega (arith, a .if1 .left, a .before .max-query-size .ensures), c .before .before .loop .inv .2 (omega (arith, c .if2 .taken)))
 
+-- reading goes on from where it was
+loop-less : tie.Need-loop-less Inv-loop μ-loop
+loop-less c =
+    let taken = c .before .if2 .taken in
+    let o = c .before .before .before .loop .inv .2 (omega (arith, taken)) in
+    let m = c .read-more .ensures in
+    omega (arith, m .inside, m .moved (omega (arith, o .bytes, taken)))
+
 returns-2 : tie.Need-returns-2 Inv-loop μ-loop
 returns-2 c =
     let a = c .before .before .before .before .before in
@@ -52,6 +60,6 @@ first-statement-spec =
     (λ c κs. let a = c .before in (omega (arith, a .if1 .left, a .before .max-query-size .ensures), record { inside = omega arith; few = omega arith; bytes = refl }, marked-none _ 1))
     (λ c. let e = c .read-some .ensures in (e .inside, e .same ∙ found-first _, e .still))
     read-more-requires
-    (λ c. let o = c .before .before .before .loop .inv .2 (omega (arith, c .before .if2 .taken)) in let m = c .read-more .ensures in omega (arith, m .inside, m .moved (omega (arith, o .bytes, c .before .if2 .taken))))
+    loop-less
     (λ c. let e = c .read-more .ensures in (e .inside, e .same ∙ c .before .before .before .loop .inv .1, e .still))
     returns-2)

@@ -1,6 +1,6 @@
 -- `statements::read_some` meets its contract. The invariant: no delimiter was read, and what is found with what is left to read is the same. The measure
 -- is what is left of the text. Assumes nothing.
-use Prim.Native.Nat.{ℕ, _+_, _-_, _≤_, _<_}
+use Prim.Native.Nat.{ℕ, _-_, _≤_, _<_}
 use native.Mathlib.Omega.{arith}
 use mathlib.Core.Path.{_≡_, refl, sym, ap, _∙_, subst}
 use mathlib.Core.List.{List}
