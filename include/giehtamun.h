@@ -1,7 +1,7 @@
 /* Giehtamun: ClickHouse's SQL tokenizer as C functions. Each function is proved to answer what its comment says; the inline helpers are
    plain C, and tested. Buffers that are lent to one call must not overlap one another where one of them is written.
    Lists, masked copies, first statements and their texts take at most 38 KB of stack, and 824 KB where a text has many dollar signs that begin
-   nothing; the others under 4 KB.
+   nothing; the others, and saved lists, under 4 KB.
 
    A text is any bytes. A token has a kind, a start and an end, both byte offsets into the text; it ends before the byte at its end. A
    packed list holds GIEHTAMUN_TOKEN_BYTES bytes a token: kind, start, end, each 32 bits, low byte first. A list's room is its length
@@ -9,7 +9,7 @@
 
    An answer is one number of 64 bits, which giehtamun_number, giehtamun_kind and giehtamun_value take apart. That of giehtamun_place
    is taken apart by giehtamun_number, giehtamun_line and giehtamun_column; that of giehtamun_first_statement by giehtamun_number,
-   giehtamun_statement_tokens and giehtamun_statement_end. */
+   giehtamun_statement_tokens and giehtamun_statement_end; the flag of giehtamun_load by giehtamun_flag. */
 #ifndef GIEHTAMUN_H
 #define GIEHTAMUN_H
 
@@ -30,17 +30,29 @@ extern "C" {
 #define GIEHTAMUN_FULL 0
 #define GIEHTAMUN_LEAN 1
 
-/* The numbers that come back, checked in the order 6, 1, 2, 4, 5, 7, 3. A refusal writes nothing, but for what giehtamun_list says of 1. */
+/* The flag of a saved list: all tokens of the text, or those that start before a position. */
+#define GIEHTAMUN_WHOLE 0
+#define GIEHTAMUN_PARTIAL 1
+
+/* The bytes of a saved file beside its text, and beside its tokens: its trailer's, and a token's. */
+#define GIEHTAMUN_TRAILER_BYTES 12
+#define GIEHTAMUN_RECORD_BYTES 4
+
+/* The numbers that come back, checked in the order 6, 1, 2, 4, 5, 7, 3, and for saved lists in the order 9, 1, 8, 2, 3. A refusal writes
+   nothing, but for what giehtamun_list says of 1. */
 enum giehtamun_numbers {
-    GIEHTAMUN_DONE = 0,        /* the value is the tokens stored, a copy's or a part's bytes, or a step's next cursor */
+    GIEHTAMUN_DONE = 0,        /* the value is the tokens stored, a copy's, part's or file's bytes, or a step's next cursor */
     GIEHTAMUN_TOO_LONG = 1,    /* the text has over GIEHTAMUN_MAX_QUERY_SIZE bytes; the value is 0 */
-    GIEHTAMUN_NOT_UTF8 = 2,    /* listings, masked copy; the value is the length of the longest valid prefix that ends at a character's end */
-    GIEHTAMUN_NO_ROOM = 3,     /* listings, masked copy; the value is the tokens or bytes needed */
+    GIEHTAMUN_NOT_UTF8 = 2,    /* listings, masked copy, saved lists; the value is the length of the longest valid prefix of the text that
+                                  ends at a character's end */
+    GIEHTAMUN_NO_ROOM = 3,     /* listings, masked copy, saved lists; the value is the tokens or bytes needed */
     GIEHTAMUN_BEYOND = 4,      /* the cursor of a step or the offset of a place is beyond the text's length; the value is 0 */
     GIEHTAMUN_NO_PART = 5,     /* token text, shown text: the start is above the end, the end is beyond the text, or one of them is on a
                                   continuation byte (80 to BF hex); for shown text also a kind outside 1 to 48; the value is 0 */
     GIEHTAMUN_NO_MODE = 6,     /* the listing mode is neither 0 nor 1; the value is 0 */
-    GIEHTAMUN_OTHER_LENGTH = 7 /* shown text: the copy's length is not the text's; the value is 0 */
+    GIEHTAMUN_OTHER_LENGTH = 7, /* shown text: the copy's length is not the text's; the value is 0 */
+    GIEHTAMUN_MALFORMED = 8,   /* saved lists: the file, the list or the flag is none; the value is 0 */
+    GIEHTAMUN_NO_VERSION = 9   /* saved lists: the file has another version than 1; the value is 0 */
 };
 
 enum giehtamun_kinds {
@@ -100,8 +112,13 @@ static inline uint32_t giehtamun_number(uint64_t answer) {
     return (uint32_t)(answer >> 56);
 }
 
-/* The kind in a step's answer, 0 in any other: bits 48 to 55. Not for a place or a first statement. */
+/* The kind in a step's answer: bits 48 to 55, which are the flag in that of giehtamun_load. Not for a place or a first statement. */
 static inline uint32_t giehtamun_kind(uint64_t answer) {
+    return (uint32_t)(answer >> 48) & 0xFF;
+}
+
+/* The flag in the answer of giehtamun_load: bits 48 to 55. */
+static inline uint32_t giehtamun_flag(uint64_t answer) {
     return (uint32_t)(answer >> 48) & 0xFF;
 }
 
@@ -207,6 +224,34 @@ uint64_t giehtamun_first_statement(const uint8_t *text, size_t text_len);
    `text` on. The last byte before giehtamun_statement_end does not tell it: a semicolon there may belong to a comment.
    Answers 0 and the part's length, or refuses with 1; a refused part is empty. */
 uint64_t giehtamun_statement_text(const uint8_t *text, size_t text_len);
+
+/* A saved list is a file with a text and its tokens, so that it opens without lexing:
+     the text;
+     the records, one a token: a kind byte, and the token's end in 24 bits; its start is the end before it, and the first starts at 0;
+     the trailer: offset of the first record, which is the text's length, and number of records, 32 bits each; a flag byte, 0 for the full
+     list and 1 for the tokens that start before a position; version byte 1; two zero bytes.
+   All numbers are low byte first. A text, list and flag that are taken have exactly one file, and every file that is taken is that of what it
+   holds, byte for byte.
+   Neither function lexes: a list is taken if it could be one. Its starts chain, its ends rise and stay in the text, a full list ends with
+   the text, and its kinds are 1 to 47 without 39. So what giehtamun_list gives in mode 0 is taken with flag 0, and what giehtamun_list_up_to
+   gives in mode 0 with flag 1. Whoever changes text or tokens in a file in such a way is not found out: a file is to be trusted as its text is. */
+
+/* The file of a text, its packed list and a flag, into the front of `file`, whose other bytes stay as they are. `list_len` is that of the
+   tokens stored, GIEHTAMUN_TOKEN_BYTES times giehtamun_value of a listing's answer, not the room's.
+   Answers 0 and the file's length, text_len + GIEHTAMUN_RECORD_BYTES * tokens + GIEHTAMUN_TRAILER_BYTES, or refuses with 1; 8, where the
+   flag is above 1, `list_len` is no multiple of GIEHTAMUN_TOKEN_BYTES, or the list is not one as above; 2; or 3, with the bytes needed. */
+uint64_t giehtamun_save(const uint8_t *text, size_t text_len, const uint8_t *list, size_t list_len, uint32_t flag, uint8_t *file,
+                        size_t file_len);
+
+/* The packed list of a file, into the front of `list`, whose other bytes stay as they are. Its text is giehtamun_saved_text's.
+   Answers 0, the number of tokens and, for giehtamun_flag, the flag; or refuses, with flag 0: 9, where the version byte is not 1; 1, where the
+   trailer's offset is over GIEHTAMUN_MAX_QUERY_SIZE; 8, where the file is not one as above, or has under GIEHTAMUN_TRAILER_BYTES bytes,
+   which is tested first; 2; or 3, with the tokens needed. There are never more tokens than bytes of text, nor than a quarter of the file's. */
+uint64_t giehtamun_load(const uint8_t *file, size_t file_len, uint8_t *list, size_t list_len);
+
+/* The text of a file, which is its front: the host takes that part itself, from `file` on.
+   Answers 0 and the text's length, or refuses as giehtamun_load does, but for 3; a refused part is empty. */
+uint64_t giehtamun_saved_text(const uint8_t *file, size_t file_len);
 
 #ifdef __cplusplus
 }

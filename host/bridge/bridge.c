@@ -1,6 +1,6 @@
 /* A host of the static library in a program of its own, for a machine that may be another than the one it is compiled on. It includes no
-   header, since that one may have none for it. Standard input: calls, each a head, its text, and the memory before the call. Standard
-   output: for each call the answer, a u64, and the memory after it. */
+   header, since that one may have none for it. Standard input: calls, each a head, its text, its packed list, and the memory before the
+   call. Standard output: for each call the answer, a u64, and the memory after it. */
 typedef unsigned char u8;
 typedef unsigned int u32;
 typedef unsigned long u64;
@@ -23,14 +23,18 @@ u64 giehtamun_shown_text(const u8 *text, u64 len, const u8 *copy, u64 lent, u32 
 u64 giehtamun_place(const u8 *text, u64 len, u64 offset);
 u64 giehtamun_first_statement(const u8 *text, u64 len);
 u64 giehtamun_statement_text(const u8 *text, u64 len);
+u64 giehtamun_save(const u8 *text, u64 len, const u8 *list, u64 list_len, u32 flag, u8 *file, u64 lent);
+u64 giehtamun_load(const u8 *file, u64 len, u8 *list, u64 lent);
+u64 giehtamun_saved_text(const u8 *file, u64 len);
 
 /* The first `lent` bytes of the memory are lent to the function. */
 struct head {
     u32 op, mode;
-    u64 number, end, len, memory_len, lent;
+    u64 number, end, len, list_len, memory_len, lent;
 };
 
-static u8 text[1100000], memory[13200000];
+/* The text of a reader is a whole saved file: a text, and four bytes a token. */
+static u8 text[5500000], list[13200000], memory[13200000];
 static u8 in[1 << 16], out[1 << 16];
 static u64 have, at, held;
 
@@ -86,9 +90,9 @@ int main(void) {
     struct head h;
     while (take((u8 *)&h, sizeof h)) {
         u64 answer;
-        if (h.len > sizeof text || h.memory_len > sizeof memory || h.lent > h.memory_len)
+        if (h.len > sizeof text || h.list_len > sizeof list || h.memory_len > sizeof memory || h.lent > h.memory_len)
             return 2;
-        if (!take(text, h.len) || !take(memory, h.memory_len))
+        if (!take(text, h.len) || !take(list, h.list_len) || !take(memory, h.memory_len))
             return 2;
         switch (h.op) {
         case 1:
@@ -135,6 +139,15 @@ int main(void) {
             break;
         case 15:
             answer = giehtamun_statement_text(text, h.len);
+            break;
+        case 16:
+            answer = giehtamun_save(text, h.len, list, h.list_len, h.mode, memory, h.lent);
+            break;
+        case 17:
+            answer = giehtamun_load(text, h.len, memory, h.lent);
+            break;
+        case 18:
+            answer = giehtamun_saved_text(text, h.len);
             break;
         default:
             return 3;

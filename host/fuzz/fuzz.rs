@@ -1,5 +1,7 @@
-//! One input of ./fuzz: what the C functions answer about a text, held to the Rust and, where the Rust has no answer, to the second reading.
-use host::{compare, compared, oracle, protocol, reading, Answer, Call, Op, Random, Triple};
+//! One input of ./fuzz: what the C functions answer about a text, held to the Rust and, where the Rust has no answer, to the second reading; and
+//! about saved lists, held to the second program.
+use host::saved::{self, RECORD_BYTES, TRAILER_BYTES};
+use host::{compare, compared, oracle, protocol, reading, texts, Answer, Call, Op, Random, Triple, TOKEN_BYTES};
 use std::sync::OnceLock;
 
 extern "C" {
@@ -7,8 +9,8 @@ extern "C" {
     fn mprotect(at: *mut u8, len: usize, protection: i32) -> i32;
 }
 
-/// How long a text may be: whole pages on any machine.
-const ROOM: usize = 1 << 16;
+/// How long a text of up to 65,536 bytes, its file or its packed list may be: whole pages on any machine.
+const ROOM: usize = 1 << 20;
 
 /// The address of a page without access, before which ROOM bytes can be written.
 fn fence() -> usize {
@@ -21,14 +23,17 @@ fn fence() -> usize {
     end as usize
 }
 
-/// The text, moved to where a read past its end is a fault.
-fn fenced(text: &[u8]) -> &[u8] {
-    static FENCE: OnceLock<usize> = OnceLock::new();
-    assert!(text.len() <= ROOM);
-    let start = (*FENCE.get_or_init(fence) - text.len()) as *mut u8;
+/// Before one stands the input, before the other a file or a list that is made of it.
+static OF_INPUT: OnceLock<usize> = OnceLock::new();
+static OF_WHAT_IS_MADE: OnceLock<usize> = OnceLock::new();
+
+/// Some bytes, moved to where a read past their end is a fault. They stay there until the next.
+fn fenced<'a>(fenced_by: &OnceLock<usize>, bytes: &'a [u8]) -> &'a [u8] {
+    assert!(bytes.len() <= ROOM);
+    let start = (*fenced_by.get_or_init(fence) - bytes.len()) as *mut u8;
     unsafe {
-        std::ptr::copy_nonoverlapping(text.as_ptr(), start, text.len());
-        std::slice::from_raw_parts(start, text.len())
+        std::ptr::copy_nonoverlapping(bytes.as_ptr(), start, bytes.len());
+        std::slice::from_raw_parts(start, bytes.len())
     }
 }
 
@@ -130,11 +135,53 @@ fn statements(text: &[u8]) {
     }
 }
 
+/// The readers of a file, with a byte too little for its tokens, just enough, and more than it can have.
+fn read_saved(file: &[u8]) {
+    let file = fenced(&OF_WHAT_IS_MADE, file);
+    let list = TOKEN_BYTES * saved::read(file).map_or(0, |saved| saved.tokens.len());
+    let mut calls = [list.saturating_sub(1), list, 3 * file.len()].map(|lent| Call::load(file, lent)).to_vec();
+    calls.push(Call::read(Op::SavedText, 0, file));
+    compare(&calls, calls.iter().map(saved::answer));
+}
+
+/// Some bytes after edits of two bytes each: how far from their end, and what is there then.
+fn edited(bytes: &[u8], edits: &[u8]) -> Vec<u8> {
+    let mut bytes = bytes.to_vec();
+    for edit in edits.chunks_exact(2) {
+        if let Some(at) = bytes.len().checked_sub(1 + edit[0] as usize) {
+            bytes[at] = edit[1];
+        }
+    }
+    bytes
+}
+
+/// The input as a file. Then its first bytes as edits and the rest as a text: the writer of its list, whole or partial, and the readers of its file,
+/// as these are, edited, and spoilt by what the input's seed chooses.
+fn saved_lists(input: &[u8], r: &mut Random) {
+    read_saved(input);
+    let (edits, text) = input.split_at(input.len().min(6));
+    let flag = r.one_of(&[0, 0, 1, 1, 2, 256]);
+    let mut tokens = std::str::from_utf8(text).map_or_else(|_| texts::invented(r, text.len(), true), oracle::full);
+    if flag == 1 {
+        tokens.truncate(r.below(tokens.len() + 1));
+    }
+    let right = reading::packed(&tokens);
+    for list in [&right, &edited(&right, edits), &texts::spoilt(r, &right)] {
+        let list = fenced(&OF_WHAT_IS_MADE, list);
+        let needed = text.len() + RECORD_BYTES * (list.len() / TOKEN_BYTES) + TRAILER_BYTES;
+        let calls = [needed - 1, needed, needed + 5].map(|lent| Call::save(text, list, flag, lent));
+        compare(&calls, calls.iter().map(saved::answer));
+    }
+    if let Ok(file) = saved::written(text, &right, flag) {
+        [&file, &edited(&file, edits), &texts::spoilt(r, &file)].iter().for_each(|file| read_saved(file));
+    }
+}
+
 /// All of these, or of a long text one, since the Rust takes the square of its length where it has many dollar signs.
 fn try_text(text: &[u8]) {
     let mut r = Random(seed(text));
     let full = std::str::from_utf8(text).map_or(vec![], oracle::full);
-    let only = (text.len() > 1000).then_some(r.below(5));
+    let only = (text.len() > 1000).then_some(r.below(6));
     let tried = |part| only.is_none_or(|only| only == part);
     if tried(0) {
         whole_lists(text, &full);
@@ -153,6 +200,9 @@ fn try_text(text: &[u8]) {
     if tried(4) {
         statements(text);
     }
+    if tried(5) {
+        saved_lists(text, &mut r);
+    }
 }
 
 /// What libFuzzer calls. A difference panics, which ends the run.
@@ -161,6 +211,6 @@ fn try_text(text: &[u8]) {
 /// `data` is the start of `len` bytes.
 #[no_mangle]
 pub unsafe extern "C" fn LLVMFuzzerTestOneInput(data: *const u8, len: usize) -> i32 {
-    try_text(fenced(unsafe { std::slice::from_raw_parts(data, len) }));
+    try_text(fenced(&OF_INPUT, unsafe { std::slice::from_raw_parts(data, len) }));
     0
 }

@@ -32,10 +32,11 @@ pub fn ask(calls: &[Call]) -> Vec<Answer> {
     for c in calls {
         all.extend((c.op as u32).to_le_bytes());
         all.extend(c.mode.to_le_bytes());
-        for number in [c.number, c.end, c.text.len() as u64, c.memory.len() as u64, c.lent as u64] {
+        for number in [c.number, c.end, c.text.len() as u64, c.list.len() as u64, c.memory.len() as u64, c.lent as u64] {
             all.extend(number.to_le_bytes());
         }
         all.extend(c.text);
+        all.extend(c.list);
         all.extend(&c.memory);
     }
     let mut input = child.stdin.take().unwrap();

@@ -1,5 +1,5 @@
-//! The oracle, a second reading of document 01, places by the protocol that editors follow, and two ways to the proved library: the archive for this
-//! machine, which is linked (build.rs), and the bridge, which has one for this machine or another.
+//! The oracle, a second reading of document 01, places by the protocol that editors follow, a second program for saved token lists, and two ways to
+//! the proved library: the archive for this machine, which is linked (build.rs), and the bridge, which has one for this machine or another.
 pub mod bridge;
 #[cfg(linked)]
 pub mod linked;
@@ -7,6 +7,7 @@ pub mod linked;
 pub mod oracle;
 pub mod protocol;
 pub mod reading;
+pub mod saved;
 pub mod texts;
 #[cfg(oracle)]
 include!(concat!(env!("OUT_DIR"), "/oracle.rs"));
@@ -33,6 +34,7 @@ pub struct Statement {
 
 /// A call: which function, its numbers, its text, and a piece of memory. The function is lent the first `lent` bytes of the memory; that
 /// the others stay as they were shows that it writes to nothing else. Shown text is lent them as the copy, to read, and its kind is the mode.
+/// The writer of a saved list reads a packed list too, and its flag is the mode; of the readers the text is the file.
 #[derive(Clone, Debug)]
 pub struct Call<'a> {
     pub op: Op,
@@ -40,6 +42,7 @@ pub struct Call<'a> {
     pub number: u64,
     pub end: u64,
     pub text: &'a [u8],
+    pub list: &'a [u8],
     pub memory: Vec<u8>,
     pub lent: usize,
 }
@@ -61,17 +64,20 @@ pub enum Op {
     Place = 13,
     FirstStatement = 14,
     StatementText = 15,
+    Save = 16,
+    Load = 17,
+    SavedText = 18,
 }
 
 impl<'a> Call<'a> {
     /// A call of a function that is lent no memory; the number is its code, offset or cursor.
     pub fn read(op: Op, number: u64, text: &'a [u8]) -> Self {
-        Call { op, mode: 0, number, end: 0, text, memory: vec![], lent: 0 }
+        Call { op, mode: 0, number, end: 0, text, list: &[], memory: vec![], lent: 0 }
     }
 
     /// A call of a listing, with bytes to write to that all differ from their neighbours; the number is its position.
     pub fn list(op: Op, mode: u32, number: u64, text: &'a [u8], lent: usize) -> Self {
-        Call { op, mode, number, end: 0, text, memory: (0..lent + 13).map(|i| i as u8 ^ 0xA5).collect(), lent }
+        Call { op, mode, number, end: 0, text, list: &[], memory: (0..lent + 13).map(|i| i as u8 ^ 0xA5).collect(), lent }
     }
 
     /// A call for the masked copy, with the same bytes to write to.
@@ -87,6 +93,16 @@ impl<'a> Call<'a> {
     /// A call for a token's shown text, with a copy of some length; its bytes are those of a listing's memory.
     pub fn shown_text(text: &'a [u8], lent: usize, kind: u32, start: u64, end: u64) -> Self {
         Call { end, ..Call::list(Op::ShownText, kind, start, text, lent) }
+    }
+
+    /// A call of the writer of a saved list, with the same bytes to write to.
+    pub fn save(text: &'a [u8], list: &'a [u8], flag: u32, lent: usize) -> Self {
+        Call { list, ..Call::list(Op::Save, flag, 0, text, lent) }
+    }
+
+    /// A call of its reader, with the same bytes to write to.
+    pub fn load(file: &'a [u8], lent: usize) -> Self {
+        Call::list(Op::Load, 0, 0, file, lent)
     }
 }
 
@@ -120,13 +136,15 @@ pub fn compared(calls: &[Call], wanted: impl IntoIterator<Item = Answer>) -> Vec
     for (call, got) in calls.iter().zip(&answers) {
         let want = wanted.next().expect("an answer to each call");
         if *got != want {
-            let Call { op, mode, number, end, text, lent, .. } = call;
+            let Call { op, mode, number, end, text, list, lent, .. } = call;
             let wrong = got.memory.iter().zip(&want.memory).position(|(a, b)| a != b);
-            let start = text[..text.len().min(300)].escape_ascii();
+            let [text_start, list_start] = [text, list].map(|bytes| bytes[..bytes.len().min(300)].escape_ascii());
             panic!(
-                "{op:?}, mode {mode}, number {number}, end {end}, {lent} bytes lent, {} bytes of text: {start}\n\
+                "{op:?}, mode {mode}, number {number}, end {end}, {lent} bytes lent, {} bytes of text: {text_start}\n\
+                 {} bytes of list: {list_start}\n\
                  answer {:016x}, should be {:016x}; first wrong byte: {wrong:?}",
                 text.len(),
+                list.len(),
                 got.answer,
                 want.answer
             );

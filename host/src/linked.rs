@@ -17,6 +17,9 @@ extern "C" {
     fn giehtamun_place(text: *const u8, len: usize, offset: usize) -> u64;
     fn giehtamun_first_statement(text: *const u8, len: usize) -> u64;
     fn giehtamun_statement_text(text: *const u8, len: usize) -> u64;
+    fn giehtamun_save(text: *const u8, len: usize, list: *const u8, list_len: usize, flag: u32, file: *mut u8, lent: usize) -> u64;
+    fn giehtamun_load(file: *const u8, len: usize, list: *mut u8, lent: usize) -> u64;
+    fn giehtamun_saved_text(file: *const u8, len: usize) -> u64;
 }
 
 // Safety, in each function below: the C function reads and writes the slices that it is lent and nothing else, as its Rattle source says.
@@ -56,6 +59,21 @@ pub fn statement_text(text: &[u8]) -> u64 {
     unsafe { giehtamun_statement_text(text.as_ptr(), text.len()) }
 }
 
+#[inline]
+pub fn save(text: &[u8], list: &[u8], flag: u32, file: &mut [u8]) -> u64 {
+    unsafe { giehtamun_save(text.as_ptr(), text.len(), list.as_ptr(), list.len(), flag, file.as_mut_ptr(), file.len()) }
+}
+
+#[inline]
+pub fn load(file: &[u8], list: &mut [u8]) -> u64 {
+    unsafe { giehtamun_load(file.as_ptr(), file.len(), list.as_mut_ptr(), list.len()) }
+}
+
+#[inline]
+pub fn saved_text(file: &[u8]) -> u64 {
+    unsafe { giehtamun_saved_text(file.as_ptr(), file.len()) }
+}
+
 pub fn call(c: &Call) -> Answer {
     let mut memory = c.memory.clone();
     let (number, end, lent) = (c.number as usize, c.end as usize, &mut memory[..c.lent]);
@@ -76,6 +94,9 @@ pub fn call(c: &Call) -> Answer {
         Op::Place => place(c.text, number),
         Op::FirstStatement => first_statement(c.text),
         Op::StatementText => statement_text(c.text),
+        Op::Save => save(c.text, c.list, c.mode, lent),
+        Op::Load => load(c.text, lent),
+        Op::SavedText => saved_text(c.text),
     };
     Answer { answer, memory }
 }

@@ -1,5 +1,5 @@
-//! Texts to compare on: every short one over an alphabet, and seeded random ones, whole and damaged.
-use crate::{reading, Random};
+//! Texts to compare on: every short one over an alphabet, and seeded random ones, whole and damaged. And token lists that no lexer made.
+use crate::{reading, Random, Triple};
 
 /// The characters that matter to some rule, and a few of each class.
 #[rustfmt::skip]
@@ -243,6 +243,56 @@ pub fn damaged(r: &mut Random, text: &str) -> Vec<u8> {
         }
     }
     text
+}
+
+/// A list that no lexer made, of a text of some length: tokens of any kind that chain, to its end or to somewhere in it. An end may be inside of a
+/// character.
+pub fn invented(r: &mut Random, length: usize, full: bool) -> Vec<Triple> {
+    let to = if full { length } else { r.below(length + 1) };
+    let longest = r.one_of(&[1, 3, 20, 400, 100_000]);
+    let (mut tokens, mut start) = (vec![], 0);
+    while start < to {
+        let end = to.min(start + 1 + r.below(longest));
+        // 1 to 47 without 39.
+        let kind = 1 + r.below(46) as u32;
+        tokens.push((kind + (kind >= 39) as u32, start as u32, end as u32));
+        start = end;
+    }
+    tokens
+}
+
+/// Numbers that a field of 32 bits may be spoilt to, beside the right one: near it, equal to it in its low bits or its high ones, the least and the
+/// greatest, and those at which sums and products of four bytes begin anew.
+#[rustfmt::skip]
+pub fn beside(right: u32) -> [u32; 24] {
+    let near = |by: u32| right.wrapping_add(by);
+    [
+        near(1), near(2), near(4), near(12), near(u32::MAX), near(u32::MAX - 3), near(1 << 8), near(1 << 16), near(1 << 24), near(1 << 30),
+        near(1 << 31), near(3 << 30), right << 1, right << 8, !right, right.wrapping_neg(), 0, 1, 1_000_000, 1_000_001, (1 << 24) - 1, 1 << 30,
+        1 << 31, u32::MAX,
+    ]
+}
+
+/// A saved file or a packed list with one thing spoilt: a byte, a bit, a number of four bytes, a piece cut off or out, or bytes put in. Half of the
+/// time it is among the last 40 bytes, where a file has its trailer.
+pub fn spoilt(r: &mut Random, bytes: &[u8]) -> Vec<u8> {
+    let among = if r.below(2) == 0 { bytes.len().min(40) } else { bytes.len() };
+    let (before, after) = bytes.split_at(bytes.len() - r.below(among + 1));
+    match (r.below(8), after) {
+        (0, [_, rest @ ..]) => [before, &[r.next() as u8], rest].concat(),
+        (1 | 2, [byte, rest @ ..]) => [before, &[byte ^ 1 << r.below(8)], rest].concat(),
+        (3, [a, b, c, d, rest @ ..]) => {
+            let other = r.one_of(&beside(u32::from_le_bytes([*a, *b, *c, *d])));
+            [before, &other.to_le_bytes(), rest].concat()
+        }
+        (4, _) => before.to_vec(),
+        (5, _) => after.to_vec(),
+        (6, _) => [before, &after[r.below(after.len() + 1)..]].concat(),
+        _ => {
+            let more: Vec<u8> = (0..1 + r.below(20)).map(|_| r.next() as u8 >> r.below(8)).collect();
+            [before, &more, after].concat()
+        }
+    }
 }
 
 /// The first and the last character of each row of RFC 3629's table, and some between: the bytes that may go on after their first differ.

@@ -1,6 +1,6 @@
 //! The library in the bridge against the linked one: the same answers, byte for byte. On x86-64 rt's own archive is linked, and the bridge has it
 //! too or, where GIEHTAMUN_BRIDGE is aarch64, its LLVM module compiled for Arm. On Arm that module is linked, and the bridge has rt's own archive.
-use host::{ask, bridge, compare, reading, texts, Call, Op, Random, MAX_QUERY_SIZE, TOKEN_BYTES};
+use host::{ask, bridge, compare, reading, saved, texts, Answer, Call, Op, Random, MAX_QUERY_SIZE, TOKEN_BYTES};
 
 /// Calls for a list with buffers of some lengths: none, a byte short, just enough, and a token for each byte of the text.
 fn lists<'a>(calls: &mut Vec<Call<'a>>, op: Op, mode: u32, position: u64, text: &'a [u8]) {
@@ -13,8 +13,18 @@ fn lists<'a>(calls: &mut Vec<Call<'a>>, op: Op, mode: u32, position: u64, text: 
     calls.extend(lengths.map(|lent| Call::list(op, mode, position, text, lent)));
 }
 
-/// Calls of each function for a text, at a few of its places: the token from anywhere, and any other part.
-fn calls<'a>(r: &mut Random, text: &'a [u8]) -> Vec<Call<'a>> {
+/// A list for the writer and a file for the reader: those of the text, half of them spoilt. Without such a file it is the text.
+fn list_and_file(r: &mut Random, text: &[u8]) -> [Vec<u8>; 2] {
+    let Answer { answer, mut memory } = ask(&[Call::list(Op::List, 0, 0, text, TOKEN_BYTES * text.len())]).remove(0);
+    let tokens = if answer >> 56 == 0 { answer as usize } else { 0 };
+    let flag = r.below(2);
+    memory.truncate(TOKEN_BYTES * if flag == 0 { tokens } else { r.below(tokens + 1) });
+    let file = saved::written(text, &memory, flag as u32).unwrap_or(text.to_vec());
+    [memory, file].map(|right| if r.below(2) == 0 { texts::spoilt(r, &right) } else { right })
+}
+
+/// Calls of each function for a text, at a few of its places: the token from anywhere, and any other part; and for a list and a file.
+fn calls<'a>(r: &mut Random, text: &'a [u8], [list, file]: &'a [Vec<u8>; 2]) -> Vec<Call<'a>> {
     let length = text.len();
     let any = |r: &mut Random| r.below(length + 2) as u64;
     let mut calls = [Op::ValidLength, Op::FirstStatement, Op::StatementText].map(|op| Call::read(op, 0, text)).to_vec();
@@ -34,6 +44,10 @@ fn calls<'a>(r: &mut Random, text: &'a [u8]) -> Vec<Call<'a>> {
         let code = r.below(codes) as u64;
         calls.extend([Op::IsWhiteSpace, Op::IsAlphabetic, Op::IsAlphanumeric].map(|op| Call::read(op, code, &[])));
     }
+    let needed = length + saved::RECORD_BYTES * (list.len() / TOKEN_BYTES) + saved::TRAILER_BYTES;
+    calls.extend([(0, needed), (1, needed - 1), (1, needed + 25), (2, needed)].map(|(flag, lent)| Call::save(text, list, flag, lent)));
+    calls.extend([0, list.len().saturating_sub(1), TOKEN_BYTES * length].map(|lent| Call::load(file, lent)));
+    calls.push(Call::read(Op::SavedText, 0, file));
     calls
 }
 
@@ -62,7 +76,8 @@ fn random_texts() {
         let some: Vec<Vec<u8>> = (0..100).map(|i| text(&mut r, i)).collect();
         bytes += some.iter().map(Vec::len).sum::<usize>();
         broken += some.iter().filter(|text| std::str::from_utf8(text).is_err()).count();
-        let all: Vec<Call> = some.iter().flat_map(|text| calls(&mut r, text)).collect();
+        let saved: Vec<[Vec<u8>; 2]> = some.iter().map(|text| list_and_file(&mut r, text)).collect();
+        let all: Vec<Call> = some.iter().zip(&saved).flat_map(|(text, saved)| calls(&mut r, text, saved)).collect();
         compared += compare(&all, bridge::ask(&all));
     }
     println!("the bridge: {n} random texts of {bytes} bytes, {broken} of them not UTF-8: {compared} calls");
@@ -76,7 +91,8 @@ fn sizes() {
         for part in ["+", "\n", "'", "$a"] {
             let mut text = part.repeat(length / part.len()).into_bytes();
             text.resize(length, b'a');
-            let all = calls(&mut r, &text);
+            let saved = list_and_file(&mut r, &text);
+            let all = calls(&mut r, &text, &saved);
             compared += compare(&all, bridge::ask(&all));
         }
     }

@@ -103,6 +103,54 @@ static int statements(void) {
     return 0;
 }
 
+static int is_loaded(uint64_t answer, uint32_t flag, uint64_t tokens) {
+    return giehtamun_number(answer) == GIEHTAMUN_DONE && giehtamun_flag(answer) == flag && giehtamun_value(answer) == tokens;
+}
+
+/* A text and its list as a file and back again; then the first two tokens alone, as a partial list. */
+static int saved(void) {
+    static const uint8_t text[] = {'a', ' ', 0xD7, 0xA9}, too_long[GIEHTAMUN_MAX_QUERY_SIZE + 1] = {0};
+    static const uint8_t known[] = {'a', ' ', 0xD7, 0xA9, 4, 1, 0, 0, 1, 2, 0, 0, 47, 4, 0, 0, 4, 0, 0, 0, 3, 0, 0, 0, 0, 1, 0, 0};
+    static uint8_t list[3 * GIEHTAMUN_TOKEN_BYTES], again[sizeof list + 1], file[sizeof known + 1];
+    const size_t two = 2 * GIEHTAMUN_TOKEN_BYTES, shorter = sizeof known - GIEHTAMUN_RECORD_BYTES;
+    size_t i;
+    giehtamun_list(text, sizeof text, GIEHTAMUN_FULL, list, sizeof list);
+    if (sizeof known != sizeof text + 3 * GIEHTAMUN_RECORD_BYTES + GIEHTAMUN_TRAILER_BYTES)
+        return 31;
+    if (!is(giehtamun_save(text, sizeof text, list, sizeof list, GIEHTAMUN_WHOLE, file, sizeof known - 1), GIEHTAMUN_NO_ROOM, 0, sizeof known))
+        return 32;
+    if (!is(giehtamun_save(text, sizeof text, list, sizeof list, GIEHTAMUN_WHOLE, file, sizeof file), GIEHTAMUN_DONE, 0, sizeof known))
+        return 33;
+    for (i = 0; i < sizeof file; i++)
+        if (file[i] != (i < sizeof known ? known[i] : 0))
+            return 34;
+    if (!is(giehtamun_load(file, sizeof known, again, sizeof list - 1), GIEHTAMUN_NO_ROOM, 0, 3) || again[0] != 0)
+        return 35;
+    if (!is_loaded(giehtamun_load(file, sizeof known, again, sizeof again), GIEHTAMUN_WHOLE, 3))
+        return 36;
+    for (i = 0; i < sizeof again; i++)
+        if (again[i] != (i < sizeof list ? list[i] : 0))
+            return 37;
+    if (!is(giehtamun_saved_text(file, sizeof known), GIEHTAMUN_DONE, 0, sizeof text))
+        return 38;
+    if (!is(giehtamun_save(text, sizeof text, list, two, GIEHTAMUN_WHOLE, file, sizeof file), GIEHTAMUN_MALFORMED, 0, 0))
+        return 39;
+    if (!is(giehtamun_save(text, sizeof text, list, two, GIEHTAMUN_PARTIAL, file, sizeof file), GIEHTAMUN_DONE, 0, shorter))
+        return 40;
+    if (!is_loaded(giehtamun_load(file, shorter, again, sizeof again), GIEHTAMUN_PARTIAL, 2))
+        return 41;
+    if (!is(giehtamun_load(file, shorter - 1, again, sizeof again), GIEHTAMUN_MALFORMED, 0, 0))
+        return 42;
+    file[shorter - 3] = 2;
+    if (!is(giehtamun_saved_text(file, shorter), GIEHTAMUN_NO_VERSION, 0, 0))
+        return 43;
+    if (!is(giehtamun_save(text, sizeof text - 1, list, two, GIEHTAMUN_PARTIAL, file, sizeof file), GIEHTAMUN_NOT_UTF8, 0, 2))
+        return 44;
+    if (!is(giehtamun_save(too_long, sizeof too_long, list, 0, GIEHTAMUN_PARTIAL, file, sizeof file), GIEHTAMUN_TOO_LONG, 0, 0))
+        return 45;
+    return 0;
+}
+
 /* The hiding kinds are 2, 5, 7 and 40 to 43. */
 static int hiding_kinds(void) {
     uint32_t kind;
@@ -122,5 +170,7 @@ int main(void) {
         wrong = broken();
     if (wrong == 0)
         wrong = statements();
+    if (wrong == 0)
+        wrong = saved();
     return wrong;
 }

@@ -1,4 +1,4 @@
-//! What `list` prints.
+//! What `list` and `open` print.
 use crate::unseen::on_a_line;
 use giehtamun::{Place, Token, place};
 
@@ -14,11 +14,13 @@ pub fn lines(text: &str, tokens: Vec<Token>) -> String {
     let mut out = String::new();
     let (mut at, mut here) = (0, Place::default());
     for token in tokens {
-        here = after(here, &text.as_bytes()[at..], token.start as usize - at);
-        at = token.start as usize;
+        // A saved list may cut a character, and then its place is that of the character.
+        let start = text.floor_char_boundary(token.start as usize);
+        here = after(here, &text.as_bytes()[at..], start - at);
+        at = start;
         let bytes = format!("{}..{}", token.start, token.end);
         let place = format!("{}:{}", here.line + 1, here.column + 1);
-        let quoted = on_a_line(&text[token.range()]);
+        let quoted = on_a_line(&String::from_utf8_lossy(&text.as_bytes()[token.range()]));
         out += &format!("{:<20} {bytes:<11} {place:<7} \"{quoted}\"\n", token.kind);
     }
     out

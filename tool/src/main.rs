@@ -1,6 +1,7 @@
-//! ./giehtamun: lists, masks or shows the SQL in a file, or prints its statements. help.txt says how.
+//! ./giehtamun: lists, masks or shows the SQL in a file, prints its statements, or saves its list. help.txt says how.
 mod list;
 mod page;
+mod saved;
 mod show;
 mod unseen;
 
@@ -11,40 +12,44 @@ use std::io::{self, ErrorKind, Read, Write, stdin, stdout};
 use std::process::ExitCode;
 
 /// A command that help.txt has.
-enum Command {
+enum Command<'a> {
     List { lean: bool },
     Mask,
     Show { html: bool },
     First { all: bool, end: u8 },
+    Save { out: &'a OsStr },
+    Open,
 }
 
 /// The command and the file that the words of a call name.
-fn command(words: &[OsString]) -> Option<(Command, &OsStr)> {
+fn command(words: &[OsString]) -> Option<(Command<'_>, &OsStr)> {
     let (options, names): (Vec<&OsString>, Vec<&OsString>) =
         words.iter().partition(|word| word.to_str().is_some_and(|w| w.starts_with("--")));
-    let [name, file] = names[..] else { return None };
+    let [name, file, more @ ..] = &names[..] else { return None };
     let options: Vec<&str> = options.into_iter().filter_map(|word| word.to_str()).collect();
-    let command = match (name.to_str()?, &options[..]) {
-        ("list", []) => Command::List { lean: false },
-        ("list", ["--lean"]) => Command::List { lean: true },
-        ("mask", []) => Command::Mask,
-        ("show", []) => Command::Show { html: false },
-        ("show", ["--html"]) => Command::Show { html: true },
-        ("first", []) => Command::First { all: false, end: b'\n' },
-        ("first", ["--null"]) => Command::First { all: false, end: 0 },
-        ("first", ["--all"]) => Command::First { all: true, end: b'\n' },
-        ("first", ["--all", "--null"] | ["--null", "--all"]) => Command::First { all: true, end: 0 },
+    let command = match (name.to_str()?, &options[..], more) {
+        ("list", [], []) => Command::List { lean: false },
+        ("list", ["--lean"], []) => Command::List { lean: true },
+        ("mask", [], []) => Command::Mask,
+        ("show", [], []) => Command::Show { html: false },
+        ("show", ["--html"], []) => Command::Show { html: true },
+        ("first", [], []) => Command::First { all: false, end: b'\n' },
+        ("first", ["--null"], []) => Command::First { all: false, end: 0 },
+        ("first", ["--all"], []) => Command::First { all: true, end: b'\n' },
+        ("first", ["--all", "--null"] | ["--null", "--all"], []) => Command::First { all: true, end: 0 },
+        ("save", [], [out]) => Command::Save { out },
+        ("open", [], []) => Command::Open,
         _ => return None,
     };
     Some((command, file))
 }
 
-/// The bytes of a file; of one that is too long, so many that they are refused.
-fn read(file: &OsStr) -> io::Result<Vec<u8>> {
+/// The bytes of a file; of one that is longer than it may be, one byte more than that.
+fn read(file: &OsStr, most: usize) -> io::Result<Vec<u8>> {
     let from: Box<dyn Read> = if file == "-" { Box::new(stdin()) } else { Box::new(File::open(file)?) };
-    let mut text = vec![];
-    from.take(MAX_QUERY_SIZE as u64 + 1).read_to_end(&mut text)?;
-    Ok(text)
+    let mut bytes = vec![];
+    from.take(most as u64 + 1).read_to_end(&mut bytes)?;
+    Ok(bytes)
 }
 
 /// A text that has a list, and what makes lines or a page of the two.
@@ -57,9 +62,9 @@ fn ended<'a>(statements: impl Iterator<Item = First<'a>>, end: u8) -> Vec<u8> {
     statements.flat_map(|statement| [statement.part, &[end]].concat()).collect()
 }
 
-/// What a command prints about a text.
-fn printed(command: Command, name: &str, text: &[u8]) -> Result<Vec<u8>, Refusal> {
-    Ok(match command {
+/// What a command makes of a text.
+fn made(command: &Command, name: &str, text: &[u8]) -> Result<Vec<u8>, Refusal> {
+    Ok(match *command {
         Command::List { lean: false } => with_list(text, giehtamun::list(text)?, list::lines),
         Command::List { lean: true } => with_list(text, giehtamun::list_lean(text)?, list::lines),
         Command::Mask => giehtamun::mask(text)?,
@@ -67,7 +72,22 @@ fn printed(command: Command, name: &str, text: &[u8]) -> Result<Vec<u8>, Refusal
         Command::Show { html: true } => with_list(text, giehtamun::list(text)?, |text, tokens| page::page(name, text, tokens)),
         Command::First { all: false, end } => ended([first_statement(text)?].into_iter(), end),
         Command::First { all: true, end } => ended(statements(text)?, end),
+        Command::Save { .. } => giehtamun::save(text, &giehtamun::list(text)?, false)?,
+        Command::Open => unreachable!("a saved file is no text"),
     })
+}
+
+/// The lines of a saved list. One line on standard error says where it is partial, since nothing else does.
+fn opened(name: &str, file: &[u8]) -> Result<Vec<u8>, String> {
+    if file.len() > saved::LONGEST {
+        return Err(format!("longer than {} bytes, which no saved list is", saved::LONGEST));
+    }
+    let saved = saved::open(file).map_err(|(refusal, text)| reason(refusal, text))?;
+    if saved.partial {
+        let end = saved.tokens.last().map_or(0, |token| token.end);
+        let _ = writeln!(io::stderr(), "giehtamun: {name}: a partial list, which ends at byte {end} of {}", saved.text.len());
+    }
+    Ok(with_list(saved.text, saved.tokens, list::lines))
 }
 
 /// Bytes as they are written in documents, as `E2 80`.
@@ -88,17 +108,32 @@ fn reason(refusal: Refusal, text: &[u8]) -> String {
     }
 }
 
+/// A file's name in a message.
+fn named(file: &OsStr, stream: &str) -> String {
+    if file == "-" { stream.to_string() } else { unseen::on_a_line(&file.to_string_lossy()) }
+}
+
 /// Runs a command; the status and the reason where it fails.
 fn run(words: &[OsString]) -> Result<(), (u8, String)> {
     let (command, file) = command(words).ok_or((2, "no such command: ./giehtamun --help says which there are".to_string()))?;
-    let name = if file == "-" { "standard input".to_string() } else { unseen::on_a_line(&file.to_string_lossy()) };
-    let text = read(file).map_err(|error| (1, format!("{name}: {error}")))?;
-    let out = printed(command, &name, &text).map_err(|refusal| (1, format!("{name}: {}", reason(refusal, &text))))?;
-    match stdout().write_all(&out).and_then(|()| stdout().flush()) {
-        // A reader that has seen enough is no error.
-        Err(error) if error.kind() != ErrorKind::BrokenPipe => Err((1, format!("standard output: {error}"))),
-        _ => Ok(()),
+    let name = named(file, "standard input");
+    let failed = |why: String| (1, format!("{name}: {why}"));
+    let most = if matches!(command, Command::Open) { saved::LONGEST } else { MAX_QUERY_SIZE };
+    let bytes = read(file, most).map_err(|error| failed(error.to_string()))?;
+    let out = match command {
+        Command::Open => opened(&name, &bytes),
+        _ => made(&command, &name, &bytes).map_err(|refusal| reason(refusal, &bytes)),
+    };
+    let out = out.map_err(failed)?;
+    match command {
+        Command::Save { out: to } if to != "-" => saved::write(file, to, &out).map_err(|error| (1, format!("{}: {error}", named(to, "")))),
+        _ => print(&out).map_err(|error| (1, format!("standard output: {error}"))),
     }
+}
+
+/// A reader that has seen enough is no error.
+fn print(out: &[u8]) -> io::Result<()> {
+    stdout().write_all(out).and_then(|()| stdout().flush()).or_else(|error| if error.kind() == ErrorKind::BrokenPipe { Ok(()) } else { Err(error) })
 }
 
 fn main() -> ExitCode {

@@ -1,45 +1,15 @@
 //! The tool as someone with a file uses it: what it prints, where, and with which status.
+mod ran;
 mod stored;
 
 use giehtamun::{MAX_QUERY_SIZE, Token, list, list_lean, place};
+use ran::{prints, refuses, run, tool};
 use std::fs::File;
 use std::io::{Read, Write};
-use std::process::{Command, Stdio};
-
-/// What a run printed, what it said on standard error, and its status.
-type Ran = (Vec<u8>, String, Option<i32>);
-
-fn tool(words: &[&str]) -> Command {
-    let mut command = Command::new(env!("CARGO_BIN_EXE_giehtamun"));
-    command.args(words).stdin(Stdio::piped()).stdout(Stdio::piped()).stderr(Stdio::piped());
-    command
-}
-
-/// A run with a text on standard input.
-fn run(words: &[&str], text: &[u8]) -> Ran {
-    let mut child = tool(words).spawn().unwrap();
-    let (mut input, text) = (child.stdin.take().unwrap(), text.to_vec());
-    // A tool that takes no more than it reads leaves the rest.
-    let writer = std::thread::spawn(move || drop(input.write_all(&text)));
-    let out = child.wait_with_output().unwrap();
-    writer.join().unwrap();
-    (out.stdout, String::from_utf8(out.stderr).unwrap(), out.status.code())
-}
-
-/// What a run prints that must go well.
-fn prints(words: &[&str], text: &[u8]) -> String {
-    let (out, said, status) = run(words, text);
-    assert_eq!((said.as_str(), status), ("", Some(0)), "{words:?}, {}", text.escape_ascii());
-    String::from_utf8(out).unwrap()
-}
 
 /// Kind, bytes and place of each line that a list prints.
 fn fields(words: &[&str], text: &[u8]) -> Vec<String> {
     prints(words, text).lines().map(|line| line.split_whitespace().take(3).collect::<Vec<_>>().join(" ")).collect()
-}
-
-fn refuses(words: &[&str], text: &[u8], says: &str, status: i32) {
-    assert_eq!(run(words, text), (vec![], format!("giehtamun: {says}\n"), Some(status)), "{words:?}");
 }
 
 /// Document 01's example, with the names and places that document 01 has for kinds and offsets.
@@ -149,7 +119,7 @@ fn the_size_limit() {
     assert_eq!(list.lines().last(), Some(&*last));
     assert_eq!(prints(&["mask", "-"], all).as_bytes(), all);
     assert_eq!(prints(&["show", "--html", "-"], all).matches("<span").count(), MAX_QUERY_SIZE);
-    for words in [&["list", "-"][..], &["list", "--lean", "-"], &["mask", "-"], &["show", "-"], &["show", "--html", "-"], &["first", "-"], &["first", "--all", "-"]] {
+    for words in [&["list", "-"][..], &["list", "--lean", "-"], &["mask", "-"], &["show", "-"], &["show", "--html", "-"], &["first", "-"], &["first", "--all", "-"], &["save", "-", "-"]] {
         refuses(words, &text, &format!("standard input: longer than {MAX_QUERY_SIZE} bytes"), 1);
     }
 }
@@ -186,7 +156,7 @@ fn first_prints_all_statements() {
 
 #[test]
 fn refusals() {
-    for words in [&["list", "-"][..], &["mask", "-"], &["show", "-"], &["show", "--html", "-"]] {
+    for words in [&["list", "-"][..], &["mask", "-"], &["show", "-"], &["show", "--html", "-"], &["save", "-", "-"]] {
         refuses(words, b"a\n\xD7\xA9 b\xC0\x80", "standard input: not UTF-8 at byte 6 (C0), line 2, column 4 in UTF-16 units", 1);
     }
     refuses(&["list", "-"], b"a\r\xF0\x90\x90\x80\r\n\xF0\x90", "standard input: not UTF-8 at byte 8 (F0 90), line 3, column 1 in UTF-16 units", 1);
@@ -194,7 +164,7 @@ fn refusals() {
     refuses(&["list", "no/such"], b"", "no/such: No such file or directory (os error 2)", 1);
     refuses(&["list", "no\nsuch"], b"", "no\\nsuch: No such file or directory (os error 2)", 1);
     refuses(&["mask", env!("CARGO_MANIFEST_DIR")], b"", concat!(env!("CARGO_MANIFEST_DIR"), ": Is a directory (os error 21)"), 1);
-    let wrong: [&[&str]; 10] = [
+    let wrong: [&[&str]; 14] = [
         &[],
         &["list"],
         &["lists", "-"],
@@ -205,6 +175,10 @@ fn refusals() {
         &["list", "--x", "-"],
         &["first", "--html", "-"],
         &["list", "--all", "-"],
+        &["save", "-"],
+        &["save", "-", "a", "b"],
+        &["save", "--lean", "-", "a"],
+        &["open", "-", "-"],
     ];
     for words in wrong {
         refuses(words, b"", "no such command: ./giehtamun --help says which there are", 2);

@@ -12,6 +12,9 @@ unsafe extern "C" {
     fn giehtamun_place(text: *const u8, text_len: usize, offset: usize) -> u64;
     fn giehtamun_first_statement(text: *const u8, text_len: usize) -> u64;
     fn giehtamun_statement_text(text: *const u8, text_len: usize) -> u64;
+    fn giehtamun_save(text: *const u8, text_len: usize, list: *const u8, list_len: usize, flag: u32, file: *mut u8, file_len: usize) -> u64;
+    fn giehtamun_load(file: *const u8, file_len: usize, list: *mut u8, list_len: usize) -> u64;
+    fn giehtamun_saved_text(file: *const u8, file_len: usize) -> u64;
 }
 
 pub fn list(text: &[u8], mode: Mode, list: &mut [u8]) -> u64 {
@@ -48,4 +51,16 @@ pub fn first_statement(text: &[u8]) -> u64 {
 
 pub fn statement_text(text: &[u8]) -> u64 {
     unsafe { giehtamun_statement_text(text.as_ptr(), text.len()) }
+}
+
+pub fn save(text: &[u8], list: &[u8], flag: u32, file: &mut [u8]) -> u64 {
+    unsafe { giehtamun_save(text.as_ptr(), text.len(), list.as_ptr(), list.len(), flag, file.as_mut_ptr(), file.len()) }
+}
+
+pub fn load(file: &[u8], list: &mut [u8]) -> u64 {
+    unsafe { giehtamun_load(file.as_ptr(), file.len(), list.as_mut_ptr(), list.len()) }
+}
+
+pub fn saved_text(file: &[u8]) -> u64 {
+    unsafe { giehtamun_saved_text(file.as_ptr(), file.len()) }
 }

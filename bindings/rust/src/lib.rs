@@ -20,9 +20,11 @@
 mod c;
 mod kind;
 mod refusal;
+mod saved;
 
 pub use kind::Kind;
 pub use refusal::Refusal;
+pub use saved::{Saved, load, save};
 use std::iter::FusedIterator;
 use std::ops::Range;
 use std::slice::ChunksExact;

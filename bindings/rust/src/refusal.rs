@@ -27,6 +27,10 @@ pub enum Refusal {
     NoPart,
     /// The copy is not as long as the text.
     OtherLength,
+    /// A saved file is none, or what is to be saved is no list of the text.
+    Malformed,
+    /// A saved file has a version that is not known.
+    NoVersion,
 }
 
 impl Refusal {
@@ -40,6 +44,8 @@ impl Refusal {
             4 => Some(Refusal::Beyond),
             5 => Some(Refusal::NoPart),
             7 => Some(Refusal::OtherLength),
+            8 => Some(Refusal::Malformed),
+            9 => Some(Refusal::NoVersion),
             _ => unreachable!("no C function answers {number} to these calls"),
         }
     }
@@ -57,6 +63,8 @@ impl Refusal {
             Refusal::Beyond => 4,
             Refusal::NoPart => 5,
             Refusal::OtherLength => 7,
+            Refusal::Malformed => 8,
+            Refusal::NoVersion => 9,
         }
     }
 }
@@ -70,6 +78,8 @@ impl fmt::Display for Refusal {
             Refusal::Beyond => write!(f, "beyond the text's end"),
             Refusal::NoPart => write!(f, "no part of the text"),
             Refusal::OtherLength => write!(f, "a copy of another length than the text"),
+            Refusal::Malformed => write!(f, "no saved list, or one that is damaged"),
+            Refusal::NoVersion => write!(f, "a saved list of a version that is not known"),
         }
     }
 }

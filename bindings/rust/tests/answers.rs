@@ -47,6 +47,14 @@ fn every_stored_answer() {
         let nothing = First { start: 0, end: 0, tokens: 0, part: b"" };
         assert_eq!(first_statement(text).unwrap(), *pieces.first().unwrap_or(&nothing), "{shown}");
 
+        // A list that is saved is read back, and so is one up to a position; a lean one that has gaps is none.
+        for (tokens, partial) in [(&full, false), (&up_to, true), (&full, true)] {
+            let file = save(text, tokens, partial).unwrap();
+            assert_eq!(load(&file).unwrap(), Saved { text, tokens: tokens.clone(), partial }, "{shown}");
+        }
+        let of_lean = if lean == full { save(text, &full, false) } else { Err(Refusal::Malformed) };
+        assert_eq!(save(text, &lean, false), of_lean, "{shown}");
+
         let texts: Vec<&[u8]> = full.iter().map(|token| token.text(text).unwrap()).collect();
         assert_eq!(texts.concat(), text, "{shown}");
         let copy = mask(text).unwrap();

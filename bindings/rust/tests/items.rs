@@ -21,7 +21,7 @@ fn the_hiding_kinds() {
 #[test]
 fn every_public_item_has_an_example() {
     let mut items = 0;
-    for source in [include_str!("../src/lib.rs"), include_str!("../src/kind.rs"), include_str!("../src/refusal.rs")] {
+    for source in [include_str!("../src/lib.rs"), include_str!("../src/kind.rs"), include_str!("../src/refusal.rs"), include_str!("../src/saved.rs")] {
         let mut has_example = false;
         for line in source.lines().map(str::trim_start) {
             if line.starts_with("///") {

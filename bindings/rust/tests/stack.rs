@@ -69,6 +69,7 @@ fn a_text_that_is_looked_ahead_in_takes_824() {
 fn all_else_takes_four() {
     let text = "SELECT 'a' FROM naïve, 一 😀\r\n".repeat(1_000).into_bytes();
     let damaged = [&text[..], b"\xE2\x80a\xE2\x80'\xF0\x9F"].concat();
+    let tokens = list(&text).unwrap();
     take_at_most(4_000, &|| {
         for text in [&text[..], &damaged] {
             assert!(steps(text).unwrap().count() > 1_000);
@@ -77,6 +78,8 @@ fn all_else_takes_four() {
         let string = step(&text, 7).unwrap();
         string.text(&text).unwrap();
         shown_text(&text, &text, string).unwrap();
+        let file = save(&text, &tokens, false).unwrap();
+        assert_eq!(load(&file).unwrap().tokens.len(), tokens.len());
         for c in '\0'..=char::MAX {
             for first in [b'a', b'1'] {
                 let mut text = [first, 0, 0, 0, 0];

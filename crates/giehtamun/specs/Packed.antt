@@ -4,6 +4,7 @@ use mathlib.Core.Path.{_≡_}
 use mathlib.Core.List.{List}
 use Rattle.rules.specs.Answers.{Written, Stepped, Part, Placed}
 use Rattle.rules.specs.Statements.{First}
+use Rattle.rules.specs.Saved.{Loaded}
 
 -- The number in bits 56 to 63, a small extra number in bits 48 to 55, the value in bits 0 to 47.
 abbrev pub packed : ℕ → ℕ → ℕ → ℕ
@@ -36,3 +37,7 @@ packedFirst f = packedHalves (f .number) (f .statement .tokens) (f .statement .e
 -- And that of its text, as a part's: the bytes that stand before its delimiter.
 abbrev pub packedText : First → ℕ
 packedText f = packed (f .number) 0 (f .statement .bytes)
+
+-- The answer of a saved list that is read: the flag beside it, and what the lent buffer holds afterwards.
+abbrev pub packedLoaded : ℕ → List ℕ → Loaded → Type 0
+packedLoaded answer buffer l = (answer ≡ packed (l .number) (l .flag) (l .value)) × (buffer ≡ l .buffer)

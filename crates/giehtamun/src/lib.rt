@@ -4,6 +4,9 @@ use lists::listing::tokenize;
 use lists::listing::tokenize_up_to_position;
 use masking::copy::mask;
 use rules::answer::Answer;
+use saved::loader::load;
+use saved::loader::saved_text_answer;
+use saved::saver::save;
 use spans::parts::shown_text_answer;
 use spans::parts::token_text_answer;
 use spans::places::place;
@@ -13,8 +16,9 @@ ghost use mathlib.Core.Path.{_≡_};
 ghost use Rattle.rules.specs.Widths.{Fits, FitsExtra, FitsHalves};
 ghost use Rattle.rules.specs.Answers.{listing, listingUpTo, step as stepAt, tokenText, shownText, maskedCopy, placeAt};
 ghost use Rattle.rules.specs.Statements.{firstStatement};
+ghost use Rattle.rules.specs.Saved.{saving, loading, savedText};
 ghost use Rattle.rules.specs.Cases.{numberOf, valueOf};
-ghost use Rattle.giehtamun.specs.Packed.{packed, packedWritten, packedStep, packedPart, packedHalves, packedPlace, packedFirst, packedText};
+ghost use Rattle.giehtamun.specs.Packed.{packed, packedWritten, packedStep, packedPart, packedHalves, packedPlace, packedFirst, packedText, packedLoaded};
 
 fn pack(number: u32, extra: u32, value: usize) -> u64
     requires { ⌜ FitsExtra number extra value ⌝ }
@@ -117,4 +121,28 @@ pub extern "C" fn giehtamun_statement_text(text: &[u8]) -> u64
 {
     let f = first_statement(text);
     pack(f.number, 0, f.bytes)
+}
+
+#[no_mangle]
+pub extern "C" fn giehtamun_save(text: &[u8], list: &[u8], flag: u32, file: &mut [u8]) -> u64
+    ensures { λ r. ⌜ packedWritten r (now (file .exit)) (saving (now (text .entry)) (now (list .entry)) flag (now (file .entry))) ⌝ }
+{
+    let saved = save(text, list, flag, file);
+    pack(saved.number, 0, saved.value)
+}
+
+#[no_mangle]
+pub extern "C" fn giehtamun_load(file: &[u8], list: &mut [u8]) -> u64
+    ensures { λ r. ⌜ packedLoaded r (now (list .exit)) (loading (now (file .entry)) (now (list .entry))) ⌝ }
+{
+    let loaded = load(file, list);
+    pack(loaded.number, loaded.flag, loaded.value)
+}
+
+#[no_mangle]
+pub extern "C" fn giehtamun_saved_text(file: &[u8]) -> u64
+    ensures { λ r. ⌜ r ≡ packedPart (savedText (now (file .entry))) ⌝ }
+{
+    let text = saved_text_answer(file);
+    pack(text.number, 0, text.value)
 }

@@ -18,9 +18,12 @@ sets-append : (xs ys l : List ℕ) (i : ℕ) → sets l i (xs ++ ys) ≡ sets (s
 sets-append [] ys l i = rw (add-zero i)
 sets-append (x ∷ xs) ys l i = rw (add-suc i (length xs), ← suc-add i (length xs)) (sets-append xs ys _ (suc i))
 
--- two runs of stores, one after the other
+-- two runs of stores, one after the other: of the first one only the second is left
+pub put-first : (l l₁ xs ys : List ℕ) (i j : ℕ) → l₁ ≡ sets l i xs → j ≡ i + length xs → sets l₁ j ys ≡ sets l i (xs ++ ys)
+put-first l l₁ xs ys i j e f = rw (e, f) (sym (sets-append xs ys l i))
+
 pub put-both : (l l₁ l₂ xs ys : List ℕ) (i j : ℕ) → l₁ ≡ sets l i xs → j ≡ i + length xs → l₂ ≡ sets l₁ j ys → l₂ ≡ sets l i (xs ++ ys)
-put-both l l₁ l₂ xs ys i j e f g = g ∙ rw (e, f) (sym (sets-append xs ys l i))
+put-both l l₁ l₂ xs ys i j e f g = g ∙ put-first l l₁ xs ys i j e f
 
 module _ (vs l : List ℕ) (i : ℕ) (h : i + length vs ≤ length l) where
   -- what is written ends where the rest begins

@@ -10,7 +10,7 @@ ghost use Rattle.rules.specs.Listing.{bytesOf32, packToken, numberAt, tokenIn};
 ghost use Rattle.lexer.specs.Ends.{tokenOf};
 
 // Low byte first. The four stores compile to one, and so do the four loads of `get_u32`.
-fn put_u32(list: &mut [u8], at: usize, x: u32) -> usize
+pub fn put_u32(list: &mut [u8], at: usize, x: u32) -> usize
     requires { ⌜ at + 4 ≤ length (now list) ⌝ }
     ensures { λ r. ⌜ (r ≡ at + 4) × (now (list .exit) ≡ sets (now (list .entry)) at (bytesOf32 x)) ⌝ }
 {
@@ -30,7 +30,7 @@ pub fn put_token(list: &mut [u8], at: usize, kind: u32, start: u32, end: u32) ->
     put_u32(list, at, end)
 }
 
-fn wide(b: u8) -> u32
+pub fn wide(b: u8) -> u32
     ensures { λ r. ⌜ (r ≡ b) × (r < 256) ⌝ }
 {
     b as u32

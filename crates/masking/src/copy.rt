@@ -12,6 +12,7 @@ use lexer::syntax_kind::SyntaxKind;
 use rules::answer::Answer;
 use rules::mask_byte;
 use rules::max_query_size;
+use runs::copy_front;
 use spans::parts::hides;
 use utf8::byte_at;
 use utf8::valid_length;
@@ -108,17 +109,6 @@ fn mask_token(text: &[u8], copy: &mut [u8], kind: u32, start: usize, end: usize)
     hide(copy, from, to);
 }
 
-fn copy_text(text: &[u8], copy: &mut [u8])
-    requires { ⌜ length (now text) ≤ length (now copy) ⌝ }
-    ensures { λ r. ⌜ now (copy .exit) ≡ filled (now (text .entry)) (now (copy .entry)) ⌝ }
-{
-    let mut i = 0;
-    while i < text.len() {
-        copy[i] = text[i];
-        i += 1;
-    }
-}
-
 // Masks on from a cursor to the end, or until it pays to look ahead, and gives the cursor then.
 fn mask_some(text: &[u8], copy: &mut [u8], from: usize, until: usize, lone: &[u64]) -> usize
     requires { ⌜ (length (now text) ≤ maxQuerySize) × (from ≤ length (now text)) × (length (now text) ≤ length (now copy)) × Marked (now text) from until (now lone) ⌝ }
@@ -197,7 +187,7 @@ pub fn mask(text: &[u8], copy: &mut [u8]) -> Answer
     if copy.len() < size {
         return Answer::NoRoom(size);
     }
-    copy_text(text, copy);
+    copy_front(text, copy);
     mask_tokens(text, copy);
     Answer::Done(size)
 }

@@ -29,6 +29,11 @@ use Rattle.masking.proofs.copy as copy
 use Rattle.spans.proofs.parts as parts
 use Rattle.spans.proofs.places as places
 use Rattle.statements.proofs as statements
+use Rattle.saved.proofs as saved
+use Rattle.saved.proofs.checks as checks
+use Rattle.saved.proofs.layout as layout
+use Rattle.saved.proofs.loader as loader
+use Rattle.saved.proofs.saver as saver
 use Rattle.giehtamun.proofs as giehtamun
 use Rattle.promises.specs.Determined.{Determined, DeterminedAs}
 
@@ -135,6 +140,9 @@ read-string κs a r s u v p q = (same p q, refl)
 pub eight : Determined runs.eight.ended runs.eight.Reads.Learnt
 eight κs a r s u v p q = (same p q, refl)
 
+pub copy-front : Determined runs.copy_front.ended runs.copy_front.Reads.Learnt
+copy-front κs a r s u v p q = lent (λ l. (tt, (l, tt))) (refl, same p q)
+
 pub others : Determined runs.others.ended runs.others.Reads.Learnt
 others κs a r s u v p q = (same p q, refl)
 
@@ -205,6 +213,12 @@ answer-by κs a r s u v p q = (same p q, refl)
 pub stored-by : Determined picks.stored_by.ended picks.stored_by.Reads.Learnt
 stored-by κs a r s u v p q = (same p q, refl)
 
+pub put-u32 : Determined packed.put_u32.ended packed.put_u32.Reads.Learnt
+put-u32 κs a r s u v p q = lent (λ l. (l, u .1)) (both p q)
+
+pub wide : Determined packed.wide.ended packed.wide.Reads.Learnt
+wide κs a r s u v p q = (same (p .0) (q .0), refl)
+
 pub get-u32 : Determined packed.get_u32.ended packed.get_u32.Reads.Learnt
 get-u32 κs a r s u v p q = (same p q, refl)
 
@@ -216,6 +230,36 @@ put-token κs a r s u v p q = lent (λ l. (l, u .1)) (both p q)
 
 pub mask : Determined copy.mask.ended copy.mask.Reads.Learnt
 mask κs a r s u v p q = lent (λ l. (tt, (l, tt))) (one-answer r s _ _ _ p q)
+
+pub answer : Determined saved.answer.ended saved.answer.Reads.Learnt
+answer κs a r s u v p q = (same p q, refl)
+
+pub put-record : Determined layout.put_record.ended layout.put_record.Reads.Learnt
+put-record κs a r s u v p q = lent (λ l. (l, u .1)) (both p q)
+
+pub get-record : Determined layout.get_record.ended layout.get_record.Reads.Learnt
+get-record κs a r s u v p q = (same p q, refl)
+
+pub put-trailer : Determined layout.put_trailer.ended layout.put_trailer.Reads.Learnt
+put-trailer κs a r s u v p q = lent (λ l. (l, u .1)) (both p q)
+
+pub list-fits : Determined checks.list_fits.ended checks.list_fits.Reads.Learnt
+list-fits κs a r s u v p q = (same p q, refl)
+
+pub records-fit : Determined checks.records_fit.ended checks.records_fit.Reads.Learnt
+records-fit κs a r s u v p q = (same p q, refl)
+
+pub save : Determined saver.save.ended saver.save.Reads.Learnt
+save κs a r s u v p q = let e = same p q in (λ i. record { number = e i .number; value = e i .value }, λ i. (tt, (tt, (tt, (e i .buffer, tt)))))
+
+pub load : Determined loader.load.ended loader.load.Reads.Learnt
+load κs a r s u v p q = let e = same p q in (λ i. record { number = e i .number; value = e i .value; flag = e i .flag }, λ i. (tt, (e i .buffer, tt)))
+
+pub saved-text-answer : Determined loader.saved_text_answer.ended loader.saved_text_answer.Reads.Learnt
+saved-text-answer κs a r s u v p q = (same p q, refl)
+
+pub saved-text : DeterminedAs loader.saved_text.ended loader.saved_text.Reads.Learnt (λ κs r. now r)
+saved-text κs a r s u v p q = (same p q, refl)
 
 pub hides : Determined parts.hides.ended parts.hides.Reads.Learnt
 hides κs a r s u v p q = (same p q, refl)
@@ -264,3 +308,12 @@ giehtamun-first-statement κs a r s u v p q = (same p q, refl)
 
 pub giehtamun-statement-text : Determined giehtamun.giehtamun_statement_text.ended giehtamun.giehtamun_statement_text.Reads.Learnt
 giehtamun-statement-text κs a r s u v p q = (same p q, refl)
+
+pub giehtamun-save : Determined giehtamun.giehtamun_save.ended giehtamun.giehtamun_save.Reads.Learnt
+giehtamun-save κs a r s u v p q = lent (λ l. (tt, (tt, (tt, (l, tt))))) (both p q)
+
+pub giehtamun-load : Determined giehtamun.giehtamun_load.ended giehtamun.giehtamun_load.Reads.Learnt
+giehtamun-load κs a r s u v p q = lent (λ l. (tt, (l, tt))) (both p q)
+
+pub giehtamun-saved-text : Determined giehtamun.giehtamun_saved_text.ended giehtamun.giehtamun_saved_text.Reads.Learnt
+giehtamun-saved-text κs a r s u v p q = (same p q, refl)

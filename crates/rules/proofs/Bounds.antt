@@ -1,22 +1,23 @@
 -- Every answer fits what a C function packs it into. Assumes nothing.
-use Prim.Native.Nat.{ℕ, _≤_, _<_}
+use Prim.Native.Nat.{ℕ, _%_, _≤_, _<_}
 use native.Mathlib.Decide.{decLt}
 use native.Mathlib.Omega.{arith}
 use mathlib.Core.Path.{_≡_}
 use mathlib.Core.List.{List}
 use mathlib.Core.Bool.{Bool, true, false, not, cond, _||_}
 use lib.Dec.{ltb, eqb}
-use lib.ListN.{length, drop}
-use borrow.Author.Tests.{ltb-false}
+use lib.ListN.{length, drop, length-take}
+use borrow.Author.Tests.{ltb-false, not-false}
 use Rattle.rules.specs.Utf8.{valid, validLength}
 use Rattle.rules.specs.Kinds.{hidingKind, someKind}
-use Rattle.rules.specs.Limits.{maxQuerySize}
+use Rattle.rules.specs.Limits.{maxQuerySize, tokenBytes}
 use Rattle.rules.specs.Widths.{numberEnd, Fits, FitsExtra, FitsHalves}
 use Rattle.rules.specs.Tokens.{Token, tokens, afterDotAt, tokenAt}
 use Rattle.rules.specs.Listing.{lean, only, leanKeeps, leanUpToKeeps, startsBefore, wholeList, listUpTo, room}
 use Rattle.rules.specs.Answers.{Done, TooLong, NotUtf8, OtherLength, NoPart, tooLong, beyond, noPart, noMode, Written, refused, stored, tooLongList, listing, listingUpTo, step, Part, refusedPart, partOf, tokenText, shownText, maskedCopy, Placed, placeAt}
 use Rattle.rules.specs.Statements.{First, firstStatement}
-use Rattle.rules.proofs.Tests.{cond-ind}
+use Rattle.rules.specs.Saved.{version, endBytes, trailerBytes, fileOf, offsetIn, countIn, flagIn, versionIn, textIn, listIn, accepted, tokensOf, writable, saving, readable, Verdict, opening, opens, Loaded, loading}
+use Rattle.rules.proofs.Tests.{cond-ind, and-right}
 use Rattle.rules.proofs.Decoding.{valid-most}
 use Rattle.rules.proofs.Edges.{tiles, tiles-count}
 use Rattle.rules.proofs.Listing.{only-length}
@@ -25,6 +26,8 @@ use Rattle.rules.proofs.KnownKinds.{kind-known}
 use Rattle.rules.proofs.Parts.{or-none, part-inside}
 use Rattle.rules.proofs.Places.{place-most}
 use Rattle.rules.proofs.Statements.{first-lies}
+use Rattle.rules.proofs.Chains.{accepted-has}
+use Rattle.rules.proofs.Saved.{opens-has, length-file, length-tokens}
 
 abbrev FitsW : Written → Type 0
 FitsW w = Fits (w .number) (w .value)
@@ -142,3 +145,49 @@ fits-step s i = go (decLt maxQuerySize (length s)) (decLt (length s) i)
     go (no h) (no k) =
         rw (step-done s i (omega arith) (omega arith))
         (omega arith, omega (arith, kind-known (afterDotAt s i) (drop i s)), omega (arith, step-ends s i (omega arith)))
+
+-- Saved lists: bytes written or needed, tokens stored or needed with the flag, and the text's bytes.
+pub fits-saving : (text list : List ℕ) (flag : ℕ) (file : List ℕ) → FitsW (saving text list flag file)
+unfolding saving
+fits-saving text list flag file =
+    cond-ind FitsW (tooLong text) _ _ (λ e. (omega arith, omega arith))
+    (λ e. cond-ind FitsW (not (writable text list flag)) _ _ (λ f. (omega arith, omega arith))
+    (λ f. cond-ind FitsW (not (valid text)) _ _ (λ g. (omega arith, omega (arith, valid-most text, ltb-false maxQuerySize (length text) e)))
+    (λ g.
+    let l = ltb-false maxQuerySize (length text) e in
+    let a = and-right (eqb (length list % tokenBytes) 0) (accepted (length text) (tokensOf list) flag) (not-false (writable text list flag) f) in
+    let n = accepted-has (length text) (tokensOf list) flag a .few in
+    let z = length-file text (tokensOf list) flag in
+    let saved = fileOf text (tokensOf list) flag in
+    cond-ind FitsW (ltb (length file) (length saved)) _ _ (λ h. (omega arith, omega arith)) (λ h. (omega arith, omega arith)))))
+
+abbrev FitsV : Verdict → Type 0
+FitsV v = Fits (v .number) (v .value)
+
+pub fits-opening : (file : List ℕ) → FitsV (opening file)
+unfolding opening
+fits-opening file =
+    cond-ind FitsV (ltb (length file) trailerBytes) _ _ (λ e. (omega arith, omega arith))
+    (λ e. cond-ind FitsV (not (eqb (versionIn file) version)) _ _ (λ f. (omega arith, omega arith))
+    (λ f. cond-ind FitsV (ltb maxQuerySize (offsetIn file)) _ _ (λ g. (omega arith, omega arith))
+    (λ g.
+    let l = ltb-false maxQuerySize (offsetIn file) g in
+    let t = length-take (offsetIn file) file in
+    cond-ind FitsV (not (readable file)) _ _ (λ h. (omega arith, omega arith))
+    (λ h. cond-ind FitsV (not (valid (textIn file))) _ _ (λ i. (omega arith, omega (arith, valid-most (textIn file)))) (λ i. (omega arith, omega arith))))))
+
+abbrev FitsL : Loaded → Type 0
+FitsL l = FitsExtra (l .number) (l .flag) (l .value)
+
+pub fits-loading : (file list : List ℕ) → FitsL (loading file list)
+unfolding loading
+fits-loading file list =
+    cond-ind FitsL (not (opens file)) _ _ (λ e. let f = fits-opening file in (f .0, omega arith, f .1))
+    (λ e.
+    let o = opens-has file (not-false (opens file) e) in
+    let a = accepted-has (offsetIn file) (listIn file) (flagIn file) (o .list) in
+    let l = o .short in
+    let n = a .few in
+    let one = a .one in
+    let k = length-tokens endBytes (countIn file) 0 (drop (offsetIn file) file) in
+    cond-ind FitsL (ltb (room list) (countIn file)) _ _ (λ f. (omega arith, omega arith, omega arith)) (λ f. (omega arith, omega arith, omega arith)))

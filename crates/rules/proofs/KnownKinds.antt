@@ -1,5 +1,6 @@
--- No kind of a token has a number above the last kind's, and only an operator delimits a statement. Assumes nothing.
-use Prim.Native.Nat.{ℕ, zero, suc, _+_, _≤_}
+-- What a character begins is a token of a kind from 1 to 47 that is not EndOfStream, and only an operator delimits a statement. Assumes nothing.
+use Prim.Native.Nat.{ℕ, zero, suc, _+_, _-_, _≤_}
+use native.Mathlib.Omega.{arith}
 use mathlib.Core.Path.{_≡_, refl, sym, subst}
 use mathlib.Core.List.{List, [], _∷_}
 use mathlib.Core.Option.{Option, some, none}
@@ -7,18 +8,19 @@ use mathlib.Core.Logic.{_⊎_, inl, inr}
 use mathlib.Core.Bool.{Bool, true, false, not, cond, _&&_}
 use lib.Dec.{leb, eqb}
 use lib.ListN.{take, drop}
-use Rattle.rules.specs.Utf8.{Char, width, chars}
-use Rattle.rules.specs.Kinds.{Number, BareWord, Spaceship, ErrorWrongNumber, ErrorMaxQuerySizeExceeded}
+use Rattle.rules.specs.Utf8.{within, Char, width, charAt, chars, charsAfter}
+use Rattle.rules.specs.Kinds.{Whitespace, Number, BareWord, Spaceship, EndOfStream, ErrorWrongNumber, ErrorToken, ErrorMaxQuerySizeExceeded}
 use Rattle.rules.specs.Lexeme.{Lexeme, is, first, run}
 use Rattle.rules.specs.Operators.{single, pair, spaceship, operator}
 use Rattle.rules.specs.Dollars.{hereDoc, dollarLexeme}
 use Rattle.rules.specs.Numbers.{numberWord, startsSuffix, allChars, figures, closing, number}
 use Rattle.rules.specs.Tokens.{Rule, spaces, dashes, slashStar, numeral, letters, quoted, doubleQuoted, backQuoted, curlyQuoted, curlyDoubleQuoted, dollars, others, rule, read, lexemeOf, lexeme}
 use Rattle.rules.specs.Statements.{delimiter}
-use Rattle.rules.proofs.Tests.{leb-true, and-left}
+use Rattle.rules.specs.Saved.{savedKind}
+use Rattle.rules.proofs.Tests.{le-true, within-true, and-left}
 
 abbrev pub known : ℕ → Bool
-known k = leb k ErrorMaxQuerySizeExceeded
+known k = savedKind k
 
 abbrev Known : Lexeme → Type 0
 Known l = known (l .kind) ≡ true
@@ -34,6 +36,10 @@ either : (b : Bool) (x y n : ℕ) → leb (cond b x y) n ≡ cond b (leb x n) (l
 either true x y n = refl
 either false x y n = refl
 
+either-above : (b : Bool) (x y n : ℕ) → leb n (cond b x y) ≡ cond b (leb n x) (leb n y)
+either-above true x y n = refl
+either-above false x y n = refl
+
 pub either-is : (b : Bool) (x y n : ℕ) → eqb (cond b x y) n ≡ cond b (eqb x n) (eqb y n)
 either-is true x y n = refl
 either-is false x y n = refl
@@ -44,20 +50,21 @@ same false c = refl
 
 single-kind : (c : ℕ) → known (single c) ≡ true
 unfolding single
-single-kind c = simp (either, same)
+single-kind c = simp (either, either-above, either-is, same)
 
-pair-kind : (a b : ℕ) → known (pair a b) ≡ true
+-- two characters that are no operator have kind 0
+pair-kind : (a b : ℕ) → (leb (pair a b) ErrorToken && not (eqb (pair a b) EndOfStream)) ≡ true
 unfolding pair
-pair-kind a b = simp (either, same)
+pair-kind a b = simp (either, either-is, same)
 
 operator-kind : (c : Char) (cs : List Char) → Known (operator c cs)
 unfolding operator
 operator-kind c cs = go (spaceship (c .code) (first cs) (first (drop 1 cs))) (pair (c .code) (first cs)) (pair-kind (c .code) (first cs))
   where
-    go : (b : Bool) (k : ℕ) → known k ≡ true → Known (elim b [ true ↦ is Spaceship 3 | false ↦ elim k [ suc j ↦ is (suc j) 2 | zero ↦ is (single (c .code)) (width c) ] ])
+    go : (b : Bool) (k : ℕ) → (leb k ErrorToken && not (eqb k EndOfStream)) ≡ true → Known (elim b [ true ↦ is Spaceship 3 | false ↦ elim k [ suc j ↦ is (suc j) 2 | zero ↦ is (single (c .code)) (width c) ] ])
     go true k e = refl
     go false zero e = single-kind (c .code)
-    go false (suc k) e = e
+    go false (suc k) e = rw (le-true Whitespace (suc k) (omega arith)) e
 
 closing-kind : (n : ℕ) (cs : List Char) → Usual (closing n cs)
 unfolding closing
@@ -65,7 +72,7 @@ closing-kind n cs = go (startsSuffix (first (drop n cs)))
   where
     go : (b : Bool) → Usual (elim b [ false ↦ is Number n | true ↦ is (cond (allChars numberWord (take n cs)) BareWord ErrorWrongNumber) (n + run numberWord (drop n cs)) ])
     go false = refl
-    go true = simp (either, either-is, same)
+    go true = simp (either, either-above, either-is, same)
 
 number-kind : (d : Bool) (cs : List Char) → Usual (number d cs)
 unfolding number
@@ -84,14 +91,14 @@ pub read-usual : (r : Rule) (d : Bool) (c : Char) (cs : List Char) → Usual (re
 unfolding read
 read-usual spaces d c cs = inl refl
 read-usual dashes d c cs = inl refl
-read-usual slashStar d c cs = inl (simp (either, either-is, same))
+read-usual slashStar d c cs = inl (simp (either, either-above, either-is, same))
 read-usual numeral d c cs = inl (number-kind d (c ∷ cs))
 read-usual letters d c cs = inl refl
-read-usual quoted d c cs = inl (simp (either, either-is, same))
-read-usual doubleQuoted d c cs = inl (simp (either, either-is, same))
-read-usual backQuoted d c cs = inl (simp (either, either-is, same))
-read-usual curlyQuoted d c cs = inl (simp (either, either-is, same))
-read-usual curlyDoubleQuoted d c cs = inl (simp (either, either-is, same))
+read-usual quoted d c cs = inl (simp (either, either-above, either-is, same))
+read-usual doubleQuoted d c cs = inl (simp (either, either-above, either-is, same))
+read-usual backQuoted d c cs = inl (simp (either, either-above, either-is, same))
+read-usual curlyQuoted d c cs = inl (simp (either, either-above, either-is, same))
+read-usual curlyDoubleQuoted d c cs = inl (simp (either, either-above, either-is, same))
 read-usual dollars d c cs = inl (dollar-kind (hereDoc cs))
 read-usual others d c cs = inr refl
 
@@ -103,10 +110,17 @@ read-kind r d c cs = go (read-usual r d c cs)
     go (inl u) = and-left (known (read r d c cs .kind)) (not (delimiter (read r d c cs .kind))) u
     go (inr e) = subst (λ (r : Rule). Known (read r d c cs)) (sym e) (operator-kind c cs)
 
-of-chars : (d : Bool) (cs : List Char) → Known (lexemeOf d cs)
-unfolding lexemeOf
-of-chars d [] = refl
-of-chars d (c ∷ cs) = read-kind (rule (c .code) (first cs)) d c cs
+pub kind-saved : (d : Bool) (b : ℕ) (s : List ℕ) → savedKind (lexeme d (b ∷ s) .kind) ≡ true
+unfolding lexemeOf charsAfter
+kind-saved d b s = let c = charAt (b ∷ s) in let cs = charsAfter (width c - 1) s in read-kind (rule (c .code) (first cs)) d c cs
+
+kind-most : (k : ℕ) → savedKind k ≡ true → k ≤ ErrorToken
+kind-most k e = within-true Whitespace ErrorToken k (and-left (within Whitespace ErrorToken k) (not (eqb k EndOfStream)) e) .1
 
 pub kind-known : (d : Bool) (s : List ℕ) → lexeme d s .kind ≤ ErrorMaxQuerySizeExceeded
-kind-known d s = leb-true _ _ (of-chars d (chars s))
+unfolding lexemeOf
+kind-known d s = go (chars s)
+  where
+    go : (cs : List Char) → lexemeOf d cs .kind ≤ ErrorMaxQuerySizeExceeded
+    go [] = omega arith
+    go (c ∷ cs) = omega (arith, kind-most (read (rule (c .code) (first cs)) d c cs .kind) (read-kind (rule (c .code) (first cs)) d c cs))

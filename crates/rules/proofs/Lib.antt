@@ -52,9 +52,13 @@ pub mod PlaceCounts
 pub mod OldPlaces
 pub mod PlaceSums
 pub mod TokenEdges
+pub mod Chains
+pub mod SavedLists
 pub mod Delimiters
 pub mod Statements
 pub mod NextStatements
+pub mod SavedBytes
+pub mod Saved
 pub mod Bounds
 pub mod Cases
 pub mod Plans
@@ -62,3 +66,4 @@ pub mod Bench
 pub mod PlaceCases
 pub mod UnitCases
 pub mod StatementCases
+pub mod SavedCases

@@ -88,7 +88,7 @@ lean-up-to-exactly s position {t} = (to, back)
     back r = only-out leanUpToKeeps ts (r .0) (rw (ne-eqb (t .kind) Whitespace (r .1)))
 
 -- The list up to a position is the front of the list: its tokens are read while one starts before it.
-late : (position from : ℕ) (ts : List Token) (to : ℕ) → Tiles from ts to → position ≤ from → only (startsBefore position) ts ≡ []
+pub late : (position from : ℕ) (ts : List Token) (to : ℕ) → Tiles from ts to → position ≤ from → only (startsBefore position) ts ≡ []
 late position from [] to t h = only-none (startsBefore position)
 late position from (t ∷ ts) to p h =
     only-no (startsBefore position) t ts (le-ltb (t .start) position (omega arith)) ∙ late position (t .end) ts to (p .2) (omega arith)

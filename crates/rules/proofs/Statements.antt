@@ -15,9 +15,9 @@ use Rattle.rules.specs.Tokens.{Token, token, tokens, tokensFrom, afterDo
 use Rattle.rules.specs.Listing.{full, wholeList, pack, unpack, room}
 use Rattle.rules.specs.Answers.{Done, TooLong, filled, stored, listing}
 use Rattle.rules.specs.Statements.{delimiter, Statement, statement, oneMore, firstIn, firstStatement}
-use Rattle.rules.proofs.KnownKinds.{kind-known}
-use Rattle.rules.proofs.Edges.{Tiles, tiles-le, from-end, from-step, from-start, step-fits}
-use Rattle.rules.proofs.Unpacking.{Fits32, AllFit32, list-back}
+use Rattle.rules.proofs.Edges.{Tiles, tiles-le}
+use Rattle.rules.proofs.Unpacking.{list-back}
+use Rattle.rules.proofs.SavedLists.{tokens-chain, chains-fit}
 
 -- the clauses of `firstIn`
 pub first-none : (size : ℕ) → firstIn size [] ≡ statement 0 size size
@@ -99,34 +99,7 @@ module _ (s : List ℕ) where
   unfolding firstStatement
   first-done h = rw (le-ltb maxQuerySize (length s) h)
 
--- The numbers of a text's tokens have 32 bits, so that a packed list is read back.
-fit-more : (t : Token) (ts : List Token) → Fits32 t → AllFit32 ts → AllFit32 (t ∷ ts)
-fit-more t ts f r = record { each = each }
-  where
-    each : (n : ℕ) → n < suc (length ts) → Fits32 (getD (t ∷ ts) n (token 0 0 0))
-    each zero h = f
-    each (suc n) h = r .each n (omega arith)
-
 module _ (s : List ℕ) (l : length s ≤ maxQuerySize) where
-  fit-token : (i : ℕ) → i < length s → Fits32 (tokenAt s i)
-  unfolding tokenAt
-  fit-token i h =
-      let f = step-fits s i h in
-      record { kind = omega (arith, kind-known (afterDotAt s i) (drop i s)); start = omega (arith, l, h); end = omega (arith, l, f .2) }
-
-  fit-by : (fuel i : ℕ) → length s - i ≤ fuel → AllFit32 (tokensFrom s i)
-  fit-by zero i k = rw (from-end s i (omega arith)) (record { each = λ n h. absurd (omega arith) })
-  fit-by (suc fuel) i k = go (decLt i (length s)) (λ j m. fit-by fuel j m)
-    where
-      go : Dec (i < length s) → ((j : ℕ) → length s - j ≤ fuel → AllFit32 (tokensFrom s j)) → AllFit32 (tokensFrom s i)
-      go (no h) ih = rw (from-end s i (omega arith)) (record { each = λ n h. absurd (omega arith) })
-      go (yes h) ih =
-          let f = step-fits s i h in
-          subst AllFit32 (sym (from-step s i h)) (fit-more (tokenAt s i) (tokensFrom s (tokenAt s i .end)) (fit-token i h) (ih (tokenAt s i .end) (omega arith)))
-
-  tokens-fit : AllFit32 (tokens s)
-  tokens-fit = subst AllFit32 (sym (from-start s)) (fit-by (length s) 0 (omega arith))
-
   -- "On valid UTF-8 it equals the answer taken from the full list": from the bytes that a listing stores.
   module _ (list : List ℕ) (v : valid s ≡ true) (r : length (tokens s) ≤ room list) where
     listed : listing full s list ≡ record { number = Done; value = length (tokens s); buffer = filled (pack (tokens s)) list }
@@ -134,4 +107,4 @@ module _ (s : List ℕ) (l : length s ≤ maxQuerySize) where
     listed = rw (le-ltb maxQuerySize (length s) l, v, le-ltb (room list) (length (tokens s)) r)
 
     pub first-listed : firstStatement s ≡ record { number = listing full s list .number; statement = firstIn (length s) (unpack (listing full s list .value) (listing full s list .buffer)) }
-    first-listed = rw listed (rw (list-back (tokens s) (drop (length (pack (tokens s))) list) tokens-fit) (first-done s l))
+    first-listed = rw listed (rw (list-back (tokens s) (drop (length (pack (tokens s))) list) (chains-fit (length s) 0 (tokens s) (omega arith) (tokens-chain s))) (first-done s l))

@@ -18,9 +18,11 @@ pub mod Masking
 pub mod Places
 pub mod Answers
 pub mod Statements
+pub mod Saved
 pub mod Records
 pub mod Cases
 pub mod Bench
 pub mod PlaceCases
 pub mod UnitCases
 pub mod StatementCases
+pub mod SavedCases

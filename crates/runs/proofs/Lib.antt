@@ -4,3 +4,4 @@ pub mod Lanes
 pub mod Firsts
 pub mod Pairs
 pub mod Edges
+pub mod Copies

@@ -1,8 +1,9 @@
-// Runs of bytes of a class, eight at a time. Each ends where eight bytes are no longer left, and its caller goes on byte by byte.
+// Runs of bytes of a class, eight at a time: each ends where eight bytes are no longer left, and its caller goes on byte by byte; and bytes copied.
 ghost use mathlib.Core.Path.{_≡_};
 ghost use mathlib.Core.Bool.{Bool, true, false, _&&_};
+ghost use mathlib.Core.List.{_++_};
 ghost use Prim.Native.Nat.{ℕ, _+_, _-_, _*_, _≤_, _<_};
-ghost use lib.ListN.{length, getD};
+ghost use lib.ListN.{length, getD, drop};
 ghost use Rattle.runs.specs.Classes.{Edges, inside, passes, Skips, Unpaired};
 ghost use Rattle.runs.specs.Lanes.{ones, packed, others};
 
@@ -92,4 +93,16 @@ pub fn skip_pairs(text: &[u8], at: usize, a: Class, b: Class) -> usize
         i += 8;
     }
     i
+}
+
+// Bytes copied to the front of others, of which the rest stays.
+pub fn copy_front(text: &[u8], copy: &mut [u8])
+    requires { ⌜ length (now text) ≤ length (now copy) ⌝ }
+    ensures { λ r. ⌜ (let s = now (text .entry) in now (copy .exit) ≡ s ++ drop (length s) (now (copy .entry))) ⌝ }
+{
+    let mut i = 0;
+    while i < text.len() {
+        copy[i] = text[i];
+        i += 1;
+    }
 }

@@ -1,10 +1,16 @@
 //! Writes texts to begin a fuzz run with, one a file, into a folder: seeds FOLDER BYTES. None is longer than that many bytes.
-use host::{texts, Random};
+use host::{reading, saved, texts, Random};
 
 /// Short tags, all different: in 4,096 bytes of them the library looks ahead, and 16,384 are too many for the tree with which it does.
 fn tags(bytes: usize) -> String {
     let letter = |i: usize| b"ABCDEFGHIJKLMNOPQRSTUVWXYZabcdefghijklmnopqrstuvwxyz"[i % 52] as char;
     (0..bytes / 4).flat_map(|i| ['$', letter(i / 2704), letter(i / 52), letter(i)]).collect()
+}
+
+/// A text with its full list, as a saved file.
+fn file(text: &str) -> Vec<u8> {
+    let list = reading::packed(&reading::full(text.as_bytes()));
+    saved::written(text.as_bytes(), &list, 0).expect("a list of the text")
 }
 
 fn main() {
@@ -26,6 +32,8 @@ fn main() {
         text.truncate(text.floor_char_boundary(most));
         let mut text = match i % 8 {
             1 => texts::damaged(&mut r, &text),
+            // A file has up to 5 bytes for each of its text, and 12 more.
+            3 => file(&text[..text.floor_char_boundary(most / 6)]),
             5 => texts::cut(&mut r, text.as_bytes()),
             _ => text.into_bytes(),
         };

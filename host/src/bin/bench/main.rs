@@ -10,6 +10,8 @@ mod ours;
 #[cfg(all(linked, oracle))]
 mod rust;
 #[cfg(all(linked, oracle))]
+mod saved;
+#[cfg(all(linked, oracle))]
 mod short;
 #[cfg(all(linked, oracle))]
 mod sql;
@@ -37,6 +39,7 @@ fn main() {
     statements::early(chosen);
     statements::none(chosen);
     statements::walks(chosen);
+    saved::table(chosen);
     tables::growth(chosen);
     hostile::table(chosen);
 }

@@ -39,7 +39,7 @@ mask-tokens-requires : tie.Need-mask-tokens-requires
 mask-tokens-requires c κs =
     let t = c .before .before .before in
     let a = t .before .before .before .before .before .before .before .before .before .args in
-    let e = t .copy-text .ensures in
+    let e = t .copy-front .ensures in
     (ltb-false maxQuerySize _ (short (t .before .before .before .before .before)), e ∙ sym (ap (filled (now (a .text))) e ∙ filled-over (now (a .text)) (now (a .text)) (now (a .copy)) refl))
 
 returns-4 : tie.Need-returns-4
@@ -50,7 +50,7 @@ returns-4 c =
     let r = t .before .before in
     let a = r .before .before .before .before .before .before .before .args in
     let s = now (a .text) in
-    let f = m .mask-tokens .ensures ∙ ap (filled (masked s)) (t .copy-text .ensures) ∙ filled-over (masked s) s (now (a .copy)) (length-masked s) in
+    let f = m .mask-tokens .ensures ∙ ap (filled (masked s)) (t .copy-front .ensures) ∙ filled-over (masked s) s (now (a .copy)) (length-masked s) in
     rw (short (r .before .before .before), is-valid (r .before), le-ltb _ _ (r .if3 .left), f)
 
 pub mask-spec : {M : Type 1} → statement M

@@ -1,4 +1,4 @@
--- `masking::copy::copy_text` meets its contract. The invariant: the bytes up to i are the text's. The measure is what is left of the text.
+-- `runs::copy_front` meets its contract. The invariant: the bytes up to i are the text's. The measure is what is left of the text.
 -- Assumes nothing.
 use Prim.Native.Nat.{ℕ, _-_, _≤_}
 use native.Mathlib.Omega.{arith}
@@ -7,9 +7,9 @@ use mathlib.Core.List.{List, _++_}
 use denote.Ref.{now}
 use lib.ListN.{length, getD, drop, set}
 use lib.Seq.{take-all}
-use Rattle.masking.proofs.Copying.{joined, joined-length, joined-more}
-use Rattle.masking.proofs.copy.copy_text.Statement.{statement}
-use Rattle.masking.proofs.copy.copy_text.Tie as tie
+use Rattle.runs.proofs.Copies.{joined, joined-length, joined-more}
+use Rattle.runs.proofs.copy_front.Statement.{statement}
+use Rattle.runs.proofs.copy_front.Tie as tie
 
 abbrev Inv-loop : tie.InvT-loop
 Inv-loop text copy₀ i₀ copy i = (i ≤ length text) × (copy ≡ joined i text copy₀)
@@ -35,8 +35,8 @@ returns c =
     ∙ ap (λ (n : ℕ). joined n (now (a .text)) (now (a .copy))) e
     ∙ ap (λ (x : List ℕ). x ++ drop (length (now (a .text))) (now (a .copy))) (take-all (length (now (a .text))) (now (a .text)) (omega arith))
 
-pub copy-text-spec : {M : Type 1} → statement M
-copy-text-spec =
+pub copy-front-spec : {M : Type 1} → statement M
+copy-front-spec =
     tie.close
     (tie.spec
     Inv-loop

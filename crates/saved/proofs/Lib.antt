@@ -1,0 +1,3 @@
+-- Bytes stored one after another, and what is answered.
+pub mod Storing
+pub mod Answers
