@@ -41,18 +41,18 @@ extern "C" {
 /* The numbers that come back, checked in the order 6, 1, 2, 4, 5, 7, 3, and for saved lists in the order 9, 1, 8, 2, 3. A refusal writes
    nothing, but for what giehtamun_list says of 1. */
 enum giehtamun_numbers {
-    GIEHTAMUN_DONE = 0,        /* the value is the tokens stored, a copy's, part's or file's bytes, or a step's next cursor */
-    GIEHTAMUN_TOO_LONG = 1,    /* the text has over GIEHTAMUN_MAX_QUERY_SIZE bytes; the value is 0 */
-    GIEHTAMUN_NOT_UTF8 = 2,    /* listings, masked copy, saved lists; the value is the length of the longest valid prefix of the text that
-                                  ends at a character's end */
-    GIEHTAMUN_NO_ROOM = 3,     /* listings, masked copy, saved lists; the value is the tokens or bytes needed */
-    GIEHTAMUN_BEYOND = 4,      /* the cursor of a step or the offset of a place is beyond the text's length; the value is 0 */
-    GIEHTAMUN_NO_PART = 5,     /* token text, shown text: the start is above the end, the end is beyond the text, or one of them is on a
-                                  continuation byte (80 to BF hex); for shown text also a kind outside 1 to 48; the value is 0 */
-    GIEHTAMUN_NO_MODE = 6,     /* the listing mode is neither 0 nor 1; the value is 0 */
+    GIEHTAMUN_DONE = 0,         /* the value is the tokens stored, a copy's, part's or file's bytes, or a step's next cursor */
+    GIEHTAMUN_TOO_LONG = 1,     /* the text has over GIEHTAMUN_MAX_QUERY_SIZE bytes; the value is 0 */
+    GIEHTAMUN_NOT_UTF8 = 2,     /* listings, masked copy, saved lists; the value is the length of the longest valid prefix of the text that
+                                   ends at a character's end */
+    GIEHTAMUN_NO_ROOM = 3,      /* listings, masked copy, saved lists; the value is the tokens or bytes needed */
+    GIEHTAMUN_BEYOND = 4,       /* the cursor of a step or the offset of a place is beyond the text's length; the value is 0 */
+    GIEHTAMUN_NO_PART = 5,      /* token text, shown text: the start is above the end, the end is beyond the text, or one of them is on a
+                                   continuation byte (80 to BF hex); for shown text also a kind outside 1 to 48; the value is 0 */
+    GIEHTAMUN_NO_MODE = 6,      /* the listing mode is neither 0 nor 1; the value is 0 */
     GIEHTAMUN_OTHER_LENGTH = 7, /* shown text: the copy's length is not the text's; the value is 0 */
-    GIEHTAMUN_MALFORMED = 8,   /* saved lists: the file, the list or the flag is none; the value is 0 */
-    GIEHTAMUN_NO_VERSION = 9   /* saved lists: the file has another version than 1; the value is 0 */
+    GIEHTAMUN_MALFORMED = 8,    /* saved lists: the file, the list or the flag is none; the value is 0 */
+    GIEHTAMUN_NO_VERSION = 9    /* saved lists: the file has another version than 1; the value is 0 */
 };
 
 enum giehtamun_kinds {

@@ -1,11 +1,11 @@
 -- The copy as it grows: up to an offset it is masked, and from there on it is still the text. Assumes nothing.
-use Prim.Native.Nat.{ℕ, suc, _+_, _-_, _≤_, _<_}
+use Prim.Native.Nat.{ℕ, _+_, _-_, _≤_, _<_}
 use native.Mathlib.Omega.{arith}
 use mathlib.Core.Path.{_≡_, refl, sym, ap, ap₂, _∙_, subst}
 use mathlib.Core.List.{List, [], _∷_, _++_, append-assoc, append-nil}
 use mathlib.Core.Bool.{false}
-use lib.ListN.{length, getD, take, drop, set, length-append, length-take, length-drop, take-append-drop, drop-of-length-le}
-use lib.Seq.{drop-at, drop-drop, drop-cons, set-at, append-snoc, take-suc, length-take-le}
+use lib.ListN.{length, drop, length-append, length-drop, take-append-drop, drop-of-length-le}
+use lib.Seq.{drop-at, drop-drop}
 use Rattle.rules.specs.Kinds.{hidingKind}
 use Rattle.rules.specs.Tokens.{Token, token, tokensFrom, lexeme, afterDotAt}
 use Rattle.rules.specs.Masking.{front, back, hide, maskToken, maskTokens, masked}

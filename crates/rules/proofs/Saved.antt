@@ -1,22 +1,22 @@
 -- #101: writer and reader are inverse to one another. What the writer makes is read back; every file that is accepted is the one that the writer makes
 -- of what was read; and so two accepted files of one text, list and flag are equal. Assumes nothing.
-use Prim.Native.Nat.{ℕ, zero, suc, _+_, _-_, _*_, _/_, _%_, _^_, _≤_, _<_}
+use Prim.Native.Nat.{ℕ, zero, suc, _+_, _-_, _*_, _%_, _^_, _≤_, _<_}
 use native.Mathlib.Omega.{arith}
 use native.Mathlib.Nat.{add-zero, zero-mul, suc-mul}
 use mathlib.Core.Path.{_≡_, refl, sym, ap, ap₂, _∙_, subst}
-use mathlib.Core.List.{List, [], _∷_, _++_, append-assoc, append-nil}
-use mathlib.Core.Bool.{Bool, true, false, not, cond, _&&_}
+use mathlib.Core.List.{List, [], _∷_, _++_, append-assoc}
+use mathlib.Core.Bool.{true, not}
 use lib.ListN.{length, getD, take, drop, length-append, length-drop, take-append-drop, drop-of-length-le}
 use lib.Dec.{ltb, eqb}
-use lib.Seq.{getD-drop, drop-cons, drop-at, take-at, take-add, drop-drop, length-take-le, take-all}
-use borrow.Author.Tests.{lt-ltb, le-ltb, ltb-false, eq-eqb, not-true, not-false}
+use lib.Seq.{getD-drop, drop-cons, drop-at, take-at, take-add, drop-drop, length-take-le}
+use borrow.Author.Tests.{le-ltb, ltb-false, eq-eqb, not-true, not-false}
 use Rattle.rules.specs.Utf8.{valid}
 use Rattle.rules.specs.Limits.{maxQuerySize, tokenBytes}
 use Rattle.rules.specs.Tokens.{Token, token}
-use Rattle.rules.specs.Listing.{bytesOf32, packToken, pack, unpack, room, numberAt, tokenIn}
+use Rattle.rules.specs.Listing.{bytesOf32, pack, room, numberAt}
 use Rattle.rules.specs.Answers.{Done, tooLong, Written, filled}
-use Rattle.rules.specs.Saved.{version, endBytes, recordOf, recordBytes, recordsOf, trailerOf, trailerBytes, fileOf, endIn, tokensIn, trailerAt, offsetIn, countIn, flagIn, versionIn, zerosIn, textIn, listIn, goesOn, chains, accepted, tokensOf, writable, saving, storedFile, readable, Verdict, verdict, opening, opens, Loaded, loading, savedText}
-use Rattle.rules.proofs.Tests.{eqb-true, and-both, both, clash, cond-ind}
+use Rattle.rules.specs.Saved.{version, endBytes, recordBytes, recordsOf, trailerOf, trailerBytes, fileOf, endIn, tokensIn, trailerAt, offsetIn, countIn, flagIn, versionIn, zerosIn, textIn, listIn, goesOn, chains, accepted, tokensOf, writable, saving, storedFile, readable, Verdict, verdict, opening, opens, Loaded, loading, savedText}
+use Rattle.rules.proofs.Tests.{eqb-true, and-both, clash, cond-ind}
 use Rattle.rules.proofs.Listing.{length-pack}
 use Rattle.rules.proofs.Unpacking.{AllBytes, bytes-drop, length-unpack, number-dropped, number-bytes, four-back, pack-back}
 use Rattle.rules.proofs.Chains.{chains-more, goes-on, accepted-has}

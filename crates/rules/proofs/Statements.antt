@@ -1,17 +1,16 @@
 -- #102: the first statement. Its numbers are those of the first delimiter in the full list, also in the list that a listing stores.
 -- Assumes nothing.
-use Prim.Native.Nat.{ℕ, zero, suc, _+_, _-_, _≤_, _<_}
+use Prim.Native.Nat.{ℕ, suc, _+_, _-_, _≤_, _<_}
 use native.Mathlib.Omega.{arith}
-use native.Mathlib.Decide.{decLt}
-use mathlib.Core.Path.{_≡_, refl, sym, ap, _∙_, subst}
+use mathlib.Core.Path.{_≡_, refl, ap, _∙_}
 use mathlib.Core.Logic.{_⊎_, inl, inr}
 use mathlib.Core.List.{List, [], _∷_, _++_, List·Memᴰ, List·Memᴰ·head, List·Memᴰ·tail, List·Memᴰ·not-nil}
 use mathlib.Core.Bool.{Bool, true, false}
-use lib.ListN.{length, getD, drop}
+use lib.ListN.{length, drop}
 use borrow.Author.Tests.{le-ltb, lt-ltb}
 use Rattle.rules.specs.Utf8.{valid}
 use Rattle.rules.specs.Limits.{maxQuerySize}
-use Rattle.rules.specs.Tokens.{Token, token, tokens, tokensFrom, afterDotAt, tokenAt}
+use Rattle.rules.specs.Tokens.{Token, tokens}
 use Rattle.rules.specs.Listing.{full, wholeList, pack, unpack, room}
 use Rattle.rules.specs.Answers.{Done, TooLong, filled, stored, listing}
 use Rattle.rules.specs.Statements.{delimiter, Statement, statement, oneMore, firstIn, firstStatement}

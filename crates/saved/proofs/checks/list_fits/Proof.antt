@@ -1,9 +1,9 @@
 -- `saved::checks::list_fits` meets its contract. The invariant: the walk reached the end of the tokens before, and knows whether all of them fit. The measure is the tokens left.
 -- Assumes nothing.
-use Prim.Native.Nat.{ℕ, _+_, _-_, _*_, _≤_, _<_}
+use Prim.Native.Nat.{ℕ, _+_, _-_, _*_, _≤_}
 use native.Mathlib.Omega.{arith}
-use mathlib.Core.Path.{_≡_, refl, sym, ap, _∙_, subst}
-use mathlib.Core.List.{List, [], _∷_}
+use mathlib.Core.Path.{_≡_, sym, ap, _∙_, subst}
+use mathlib.Core.List.{List, _∷_}
 use mathlib.Core.Bool.{Bool, _&&_}
 use denote.Ref.{now}
 use lib.ListN.{length, drop}

@@ -1,5 +1,5 @@
 -- `saved::loader::load` meets its contract: the reader's tests, and then the room. Assumes nothing.
-use Prim.Native.Nat.{ℕ, _*_, _/_, _≤_, _<_}
+use Prim.Native.Nat.{ℕ, _/_, _≤_, _<_}
 use native.Mathlib.Omega.{arith}
 use mathlib.Core.Path.{_≡_, sym, ap, _∙_, subst}
 use mathlib.Core.List.{List}
@@ -7,7 +7,6 @@ use denote.Ref.{now}
 use lib.ListN.{length, drop}
 use borrow.Author.Needs.{needs}
 use borrow.Author.Tests.{eq-eqb}
-use Rattle.rules.specs.Limits.{tokenBytes}
 use Rattle.rules.specs.Listing.{pack, room}
 use Rattle.rules.specs.Answers.{Done, NoRoom, filled}
 use Rattle.rules.specs.Saved.{endBytes, offsetIn, countIn, tokensIn, opening, refusedLoad}
