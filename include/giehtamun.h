@@ -234,10 +234,11 @@ uint64_t giehtamun_statement_text(const uint8_t *text, size_t text_len);
    holds, byte for byte.
    Neither function lexes: a list is taken if it could be one. Its starts chain, its ends rise and stay in the text, a full list ends with
    the text, and its kinds are 1 to 47 without 39. So what giehtamun_list gives in mode 0 is taken with flag 0, and what giehtamun_list_up_to
-   gives in mode 0 with flag 1. Whoever changes text or tokens in a file in such a way is not found out: a file is to be trusted as its text is. */
+   gives in mode 0 with flag 1. A change of text or tokens that leaves a list so is not noticed: trust a file as you trust its text. */
 
 /* The file of a text, its packed list and a flag, into the front of `file`, whose other bytes stay as they are. `list_len` is that of the
-   tokens stored, GIEHTAMUN_TOKEN_BYTES times giehtamun_value of a listing's answer, not the room's.
+   tokens stored, GIEHTAMUN_TOKEN_BYTES times giehtamun_value of a listing that answered 0, not the room's; the value of 3 counts tokens that
+   are not there.
    Answers 0 and the file's length, text_len + GIEHTAMUN_RECORD_BYTES * tokens + GIEHTAMUN_TRAILER_BYTES, or refuses with 1; 8, where the
    flag is above 1, `list_len` is no multiple of GIEHTAMUN_TOKEN_BYTES, or the list is not one as above; 2; or 3, with the bytes needed. */
 uint64_t giehtamun_save(const uint8_t *text, size_t text_len, const uint8_t *list, size_t list_len, uint32_t flag, uint8_t *file,

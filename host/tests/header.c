@@ -107,12 +107,11 @@ static int is_loaded(uint64_t answer, uint32_t flag, uint64_t tokens) {
     return giehtamun_number(answer) == GIEHTAMUN_DONE && giehtamun_flag(answer) == flag && giehtamun_value(answer) == tokens;
 }
 
-/* A text and its list as a file and back again; then the first two tokens alone, as a partial list. */
+/* A text and its list as a file and back again. */
 static int saved(void) {
-    static const uint8_t text[] = {'a', ' ', 0xD7, 0xA9}, too_long[GIEHTAMUN_MAX_QUERY_SIZE + 1] = {0};
+    static const uint8_t text[] = {'a', ' ', 0xD7, 0xA9};
     static const uint8_t known[] = {'a', ' ', 0xD7, 0xA9, 4, 1, 0, 0, 1, 2, 0, 0, 47, 4, 0, 0, 4, 0, 0, 0, 3, 0, 0, 0, 0, 1, 0, 0};
     static uint8_t list[3 * GIEHTAMUN_TOKEN_BYTES], again[sizeof list + 1], file[sizeof known + 1];
-    const size_t two = 2 * GIEHTAMUN_TOKEN_BYTES, shorter = sizeof known - GIEHTAMUN_RECORD_BYTES;
     size_t i;
     giehtamun_list(text, sizeof text, GIEHTAMUN_FULL, list, sizeof list);
     if (sizeof known != sizeof text + 3 * GIEHTAMUN_RECORD_BYTES + GIEHTAMUN_TRAILER_BYTES)
@@ -133,6 +132,15 @@ static int saved(void) {
             return 37;
     if (!is(giehtamun_saved_text(file, sizeof known), GIEHTAMUN_DONE, 0, sizeof text))
         return 38;
+    return 0;
+}
+
+/* The first two of three tokens, as a partial list, and what is refused. */
+static int partial(void) {
+    static const uint8_t text[] = {'a', ' ', 0xD7, 0xA9}, too_long[GIEHTAMUN_MAX_QUERY_SIZE + 1] = {0};
+    static uint8_t list[3 * GIEHTAMUN_TOKEN_BYTES], again[sizeof list], file[100];
+    const size_t two = 2 * GIEHTAMUN_TOKEN_BYTES, shorter = sizeof text + 2 * GIEHTAMUN_RECORD_BYTES + GIEHTAMUN_TRAILER_BYTES;
+    giehtamun_list(text, sizeof text, GIEHTAMUN_FULL, list, sizeof list);
     if (!is(giehtamun_save(text, sizeof text, list, two, GIEHTAMUN_WHOLE, file, sizeof file), GIEHTAMUN_MALFORMED, 0, 0))
         return 39;
     if (!is(giehtamun_save(text, sizeof text, list, two, GIEHTAMUN_PARTIAL, file, sizeof file), GIEHTAMUN_DONE, 0, shorter))
@@ -172,5 +180,7 @@ int main(void) {
         wrong = statements();
     if (wrong == 0)
         wrong = saved();
+    if (wrong == 0)
+        wrong = partial();
     return wrong;
 }

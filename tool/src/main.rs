@@ -82,7 +82,11 @@ fn opened(name: &str, file: &[u8]) -> Result<Vec<u8>, String> {
     if file.len() > saved::LONGEST {
         return Err(format!("longer than {} bytes, which no saved list is", saved::LONGEST));
     }
-    let saved = saved::open(file).map_err(|(refusal, text)| reason(refusal, text))?;
+    let saved = saved::open(file).map_err(|(refusal, text)| match refusal {
+        // By the trailer, whatever there is.
+        Refusal::TooLong => format!("no saved list, or one of a text {refusal}"),
+        _ => reason(refusal, text),
+    })?;
     if saved.partial {
         let end = saved.tokens.last().map_or(0, |token| token.end);
         let _ = writeln!(io::stderr(), "giehtamun: {name}: a partial list, which ends at byte {end} of {}", saved.text.len());

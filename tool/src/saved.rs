@@ -25,7 +25,8 @@ fn replaced(out: &Path) -> io::Result<(PathBuf, Option<Metadata>)> {
     match fs::metadata(out) {
         Ok(there) if there.is_file() => Ok((fs::canonicalize(out)?, Some(there))),
         Ok(_) => Err(io::Error::other("it is there and no file")),
-        Err(error) if error.kind() == ErrorKind::NotFound => Ok((out.to_path_buf(), None)),
+        // A link that leads nowhere is there.
+        Err(error) if error.kind() == ErrorKind::NotFound && fs::symlink_metadata(out).is_err() => Ok((out.to_path_buf(), None)),
         Err(error) => Err(error),
     }
 }
@@ -41,7 +42,8 @@ fn beside(out: &Path) -> io::Result<(PathBuf, File)> {
 pub fn write(from: &OsStr, out: &OsStr, bytes: &[u8]) -> io::Result<()> {
     let (out, there) = replaced(Path::new(out))?;
     let same = |a: &Metadata, b: &Metadata| (a.dev(), a.ino()) == (b.dev(), b.ino());
-    if from != "-" && there.as_ref().is_some_and(|there| fs::metadata(from).is_ok_and(|from| same(&from, there))) {
+    let read = fs::metadata(if from == "-" { OsStr::new("/dev/stdin") } else { from });
+    if there.as_ref().is_some_and(|there| read.is_ok_and(|read| same(&read, there))) {
         return Err(io::Error::other("it is the query's own file"));
     }
     let (part, mut file) = beside(&out)?;

@@ -107,12 +107,15 @@ fn refuses_what_is_no_saved_list() {
         file
     };
     let end = by_hand(0).len();
-    let malformed = "standard input: no saved list, or one that is damaged";
+    let malformed = "standard input: no saved list, or no list that can be saved";
     for file in [vec![], b"SELECT 1".to_vec(), by_hand(2), by_hand(0)[1..].to_vec(), spoilt(3, 39), spoilt(12, 4), spoilt(end - 1, 1)] {
         refuses(&["open", "-"], &file, malformed);
     }
-    refuses(&["open", "-"], &spoilt(end - 3, 2), "standard input: a saved list of a version that is not known");
-    refuses(&["open", "-"], &spoilt(end - 9, 1), "standard input: longer than 1000000 bytes");
+    let no_version = "standard input: no saved list, or one of a version that is not known";
+    refuses(&["open", "-"], &spoilt(end - 3, 2), no_version);
+    // A query, for which the file beside it was meant.
+    refuses(&["open", "-"], b"SELECT 'a' FROM b", no_version);
+    refuses(&["open", "-"], &spoilt(end - 9, 1), "standard input: no saved list, or one of a text longer than 1000000 bytes");
     refuses(&["open", "-"], &spoilt(1, 0xC3), "standard input: not UTF-8 at byte 1 (C3), line 1, column 2 in UTF-16 units");
     // The broken character ends with the text, whatever byte the trailer begins with.
     let cut = [&[b'a'; 127][..], &[0xE2], &[128, 0, 0, 0, 0, 0, 0, 0, 1, 1, 0, 0]].concat();
@@ -150,10 +153,16 @@ fn writes_whole_or_not_at_all() {
     refuses(&["save", &query, &at("")], b"", &format!("{}: it is there and no file", at("")));
     refuses(&["save", &query, "/dev/null"], b"", "/dev/null: it is there and no file");
     refuses(&["save", &query, &query], b"", &format!("{query}: it is the query's own file"));
+    // As standard input too.
+    let mut shell = std::process::Command::new("sh");
+    let ran = shell.args(["-c", "\"$0\" save - \"$1\" <\"$1\"", env!("CARGO_BIN_EXE_giehtamun"), &query]).output().unwrap();
+    assert_eq!((String::from_utf8(ran.stderr).unwrap(), ran.status.code()), (format!("giehtamun: {query}: it is the query's own file\n"), Some(1)));
+    symlink("nowhere", at("link")).unwrap();
+    refuses(&["save", &query, &at("link")], b"", &format!("{}: No such file or directory (os error 2)", at("link")));
     fs::hard_link(&query, at("same")).unwrap();
     refuses(&["save", &query, &at("same")], b"", &format!("{}: it is the query's own file", at("same")));
     assert_eq!((fs::read(&out).unwrap(), fs::read(&query).unwrap()), (b"as it was".to_vec(), b"a 1".to_vec()));
-    assert_eq!(names(&folder), ["out", "query.sql", "same"]);
+    assert_eq!(names(&folder), ["link", "out", "query.sql", "same"]);
 }
 
 /// A file that may grow to so many bytes only: what is written beside it goes again.

@@ -1,6 +1,6 @@
 //! ClickHouse's SQL tokenizer, proved, for hosts in Rust. These are safe functions over Giehtamun's C functions, with no dependency.
 //!
-//! A text is any bytes of at most [`MAX_QUERY_SIZE`]. Lists and masked copies want UTF-8, and say up to where it is where it is not. Offsets
+//! A text is any bytes of at most [`MAX_QUERY_SIZE`]. Lists, masked copies and saved files want UTF-8, and say up to where it is where it is not. Offsets
 //! count bytes; the columns of a [`Place`] count UTF-16 code units.
 //!
 //! ```

@@ -78,8 +78,8 @@ impl fmt::Display for Refusal {
             Refusal::Beyond => write!(f, "beyond the text's end"),
             Refusal::NoPart => write!(f, "no part of the text"),
             Refusal::OtherLength => write!(f, "a copy of another length than the text"),
-            Refusal::Malformed => write!(f, "no saved list, or one that is damaged"),
-            Refusal::NoVersion => write!(f, "a saved list of a version that is not known"),
+            Refusal::Malformed => write!(f, "no saved list, or no list that can be saved"),
+            Refusal::NoVersion => write!(f, "no saved list, or one of a version that is not known"),
         }
     }
 }

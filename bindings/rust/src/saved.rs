@@ -29,7 +29,7 @@ pub struct Saved<'a> {
 /// The file of a text and its tokens: all of them, or where `partial` those that start before a position. It has 4 bytes a token and 12 more than
 /// the text, with which it begins, and the same text, tokens and `partial` always give the same file.
 ///
-/// Nothing is lexed. What [`crate::list`] gives is never [`Refusal::Malformed`], and neither is what [`crate::list_up_to`] gives in
+/// Nothing is lexed. What [`crate::list`] gives is never [`Refusal::Malformed`] here, and neither is what [`crate::list_up_to`] gives in
 /// [`crate::Mode::Full`], where `partial`.
 ///
 /// ```
@@ -51,7 +51,10 @@ pub fn save(text: &[u8], tokens: &[Token], partial: bool) -> Result<Vec<u8>, Ref
 
 /// What a saved file holds: its text, which is a part of it, its tokens, and whether they are only some.
 ///
-/// Nothing is lexed: that these are the tokens of this text is for the writer to say. The answer may be [`Refusal::NoVersion`],
+/// Nothing is lexed, and whether these are the text's own tokens is not tested: trust a file as you trust its text. It may call a literal a word, so
+/// use [`crate::mask`] for what must not be shown; and a token may end inside a character, where [`Token::text`] answers [`Refusal::NoPart`].
+///
+/// The answer may be [`Refusal::NoVersion`],
 /// [`Refusal::TooLong`], [`Refusal::Malformed`] or [`Refusal::NotUtf8`], tested in this order, but that a file under 12 bytes is malformed.
 ///
 /// ```

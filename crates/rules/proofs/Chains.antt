@@ -81,7 +81,7 @@ module _ (size : ℕ) (ts : List Token) (at : ℕ) (fits : Bool) where
   reached-all r flag = rw (r .same ∙ ap (λ (b : Bool). b && fits) (chains-none size at), r .last ∙ end-none at)
 
 -- There are no more tokens than bytes, and the last one ends in the text.
-pub chains-few : (size at : ℕ) (ts : List Token) → at ≤ size → chains size at ts ≡ true → (length ts + at ≤ endOf at ts) × (endOf at ts ≤ size)
+chains-few : (size at : ℕ) (ts : List Token) → at ≤ size → chains size at ts ≡ true → (length ts + at ≤ endOf at ts) × (endOf at ts ≤ size)
 chains-few size at [] h e = let n = end-none at in (omega arith, omega arith)
 chains-few size at (t ∷ ts) h e =
     let a = and-both (goesOn size at t) _ (sym (chains-more size at t ts) ∙ e) in

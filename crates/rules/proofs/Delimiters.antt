@@ -15,13 +15,14 @@ use Rattle.rules.specs.Characters.{dot, semicolon, backslash, capitalG, 
 use Rattle.rules.specs.Lexeme.{Lexeme, is, first, two}
 use Rattle.rules.specs.Operators.{single, pair, spaceship, operator}
 use Rattle.rules.specs.Tokens.{Rule, others, rule, read, lexemeOf, lexeme, isDot, afterDotAt, tokenAt}
+use Rattle.rules.specs.Saved.{savedKind}
 use Rattle.rules.specs.Statements.{delimiter}
 use Rattle.rules.proofs.Tests.{clash, eqb-true, eqb-same, and-right}
 use Rattle.rules.proofs.Decoding.{chars-at, chars-ascii, code-high}
 use Rattle.rules.proofs.Bytes.{next-is}
 use Rattle.rules.proofs.Rules.{lexeme-by, two-true}
 use Rattle.rules.proofs.Operators.{operator-three, operator-two, operator-one}
-use Rattle.rules.proofs.KnownKinds.{either-is, same, known, usual, read-usual}
+use Rattle.rules.proofs.KnownKinds.{either-is, same, usual, read-usual}
 
 -- which of the kinds in the tables of rule 2 delimit
 single-not : (c : ℕ) → eqb c semicolon ≡ false → delimiter (single c) ≡ false
@@ -66,7 +67,7 @@ module _ (c : Char) (cs : List Char) where
   made d h = go (rule (c .code) (first cs)) refl (read-usual (rule (c .code) (first cs)) d c cs)
     where
       go : (r : Rule) → rule (c .code) (first cs) ≡ r → (usual (lexemeOf d (c ∷ cs) .kind) ≡ true) ⊎ (rule (c .code) (first cs) ≡ others) → Made c cs (lexemeOf d (c ∷ cs))
-      go r e (inl u) = let n = and-right (known (lexemeOf d (c ∷ cs) .kind)) (not (delimiter (lexemeOf d (c ∷ cs) .kind))) u in clash refl (sym n ∙ ap not h)
+      go r e (inl u) = let n = and-right (savedKind (lexemeOf d (c ∷ cs) .kind)) (not (delimiter (lexemeOf d (c ∷ cs) .kind))) u in clash refl (sym n ∙ ap not h)
       go r e (inr o) =
           let f = lexeme-by d c cs others o in
           rw f (made-operator (sym (ap (λ (l : Lexeme). delimiter (l .kind)) f) ∙ h))

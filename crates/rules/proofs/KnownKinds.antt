@@ -19,15 +19,12 @@ use Rattle.rules.specs.Statements.{delimiter}
 use Rattle.rules.specs.Saved.{savedKind}
 use Rattle.rules.proofs.Tests.{le-true, within-true, and-left}
 
-abbrev pub known : ℕ → Bool
-known k = savedKind k
-
 abbrev Known : Lexeme → Type 0
-Known l = known (l .kind) ≡ true
+Known l = savedKind (l .kind) ≡ true
 
--- a known kind that delimits nothing
+-- such a kind that delimits nothing
 abbrev pub usual : ℕ → Bool
-usual k = known k && not (delimiter k)
+usual k = savedKind k && not (delimiter k)
 
 abbrev Usual : Lexeme → Type 0
 Usual l = usual (l .kind) ≡ true
@@ -48,7 +45,7 @@ pub same : (b c : Bool) → cond b c c ≡ c
 same true c = refl
 same false c = refl
 
-single-kind : (c : ℕ) → known (single c) ≡ true
+single-kind : (c : ℕ) → savedKind (single c) ≡ true
 unfolding single
 single-kind c = simp (either, either-above, either-is, same)
 
@@ -107,7 +104,7 @@ unfolding read
 read-kind r d c cs = go (read-usual r d c cs)
   where
     go : Usual (read r d c cs) ⊎ (r ≡ others) → Known (read r d c cs)
-    go (inl u) = and-left (known (read r d c cs .kind)) (not (delimiter (read r d c cs .kind))) u
+    go (inl u) = and-left (savedKind (read r d c cs .kind)) (not (delimiter (read r d c cs .kind))) u
     go (inr e) = subst (λ (r : Rule). Known (read r d c cs)) (sym e) (operator-kind c cs)
 
 pub kind-saved : (d : Bool) (b : ℕ) (s : List ℕ) → savedKind (lexeme d (b ∷ s) .kind) ≡ true

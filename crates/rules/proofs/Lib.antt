@@ -37,7 +37,7 @@ pub mod NumberBytes
 pub mod Visible
 pub mod Relex
 pub mod Masked
--- Demand 2: the first token, the kinds, the edges, a step, the lists, the places, the statements, how large answers get, and the bench sheet.
+-- Demand 2: the first token, the kinds, the edges, a step, the lists, the places, the statements, the saved lists, how large answers get, and the bench sheet.
 pub mod FirstToken
 pub mod KnownKinds
 pub mod Edges

@@ -37,15 +37,14 @@ pub record Holds (width size : ℕ) : Type 0 where
   pub end-back : (n : ℕ) → n ≤ size → numberAt (take width (bytesOf32 n)) 0 ≡ n
   pub bytes-back : (l : List ℕ) → AllBytes l → width ≤ length l → take width (bytesOf32 (numberAt (take width l) 0)) ≡ take width l
 
-module _ (width size : ℕ) (w : Holds width size) where
-  length-records : (ts : List Token) → length (recordsOf width ts) ≡ length ts * recordBytes width
-  unfolding recordsOf
-  length-records [] = sym (zero-mul (recordBytes width))
-  length-records (t ∷ ts) =
-      let h = length-records ts in
-      let e = w .length-end (t .end) in
-      ap suc (length-append (take width (bytesOf32 (t .end))) (recordsOf width ts) ∙ ap₂ _+_ e h) ∙ sym (one-more (length ts) width)
+-- "A record is a kind byte and the token's end": so many bytes.
+pub length-records : (width : ℕ) → ((n : ℕ) → length (take width (bytesOf32 n)) ≡ width) → (ts : List Token) → length (recordsOf width ts) ≡ length ts * recordBytes width
+unfolding recordsOf
+length-records width e [] = sym (zero-mul (recordBytes width))
+length-records width e (t ∷ ts) =
+    ap suc (length-append (take width (bytesOf32 (t .end))) (recordsOf width ts) ∙ ap₂ _+_ (e (t .end)) (length-records width e ts)) ∙ sym (one-more (length ts) width)
 
+module _ (width size : ℕ) (w : Holds width size) where
   -- reading undoes writing
   records-back : (ts : List Token) (at : ℕ) (rest : List ℕ) → chains size at ts ≡ true → tokensIn width (length ts) at (recordsOf width ts ++ rest) ≡ ts
   unfolding tokensIn recordsOf
@@ -80,8 +79,8 @@ module _ (width size : ℕ) (w : Holds width size) where
       ∙ sym (take-add width (n * recordBytes width) l))
       ∙ ap (λ (k : ℕ). take k (x ∷ l)) (sym m)
 
--- Three bytes hold an end in a text within the limit.
-three : (size : ℕ) → size ≤ maxQuerySize → Holds endBytes size
+-- Three bytes hold ends of 24 bits.
+three : (size : ℕ) → size < 2 ^ 24 → Holds endBytes size
 three size h = record { length-end = λ n. refl; end-back = back; bytes-back = bytes }
   where
     back : (n : ℕ) → n ≤ size → numberAt (take endBytes (bytesOf32 n)) 0 ≡ n
@@ -185,7 +184,7 @@ one-file file b o =
     let h = length-drop off file in
     let size : length (textIn file) ≡ off = length-take-le off file (omega arith) in
     let count : length (listIn file) ≡ n = length-tokens endBytes n 0 (drop off file) in
-    let records = bytes-of-records endBytes off (three off (o .short)) n 0 (drop off file) (bytes-drop off file b) (omega arith) in
+    let records = bytes-of-records endBytes off (three off (omega (arith, o .short))) n 0 (drop off file) (bytes-drop off file b) (omega arith) in
     let d = drop at file in
     let there : (k : ℕ) → numberAt file (at + k) ≡ numberAt d k = number-dropped file at in
     let byte : (k : ℕ) → getD d k 0 ≡ getD file (at + k) 0 = λ k. getD-drop at file k 0 in
@@ -218,7 +217,7 @@ length-file text ts flag =
     let t = trailerOf (length text) (length ts) flag in
     let a = length-append text (r ++ t) in
     let b = length-append r t in
-    let c = length-records endBytes 0 (three 0 (omega arith)) ts in
+    let c = length-records endBytes (λ n. refl) ts in
     omega arith
 
 pub gives-back : (text : List ℕ) (ts : List Token) (flag : ℕ) → length text ≤ maxQuerySize → accepted (length text) ts flag ≡ true → valid text ≡ true → GivesBack (fileOf text ts flag) text ts flag
@@ -236,7 +235,7 @@ gives-back text ts flag l a v =
     let is-list : listIn f ≡ ts =
     ap₂ (λ (k m : ℕ). tokensIn endBytes k 0 (drop m f)) n off
     ∙ ap (tokensIn endBytes (length ts) 0) (drop-at text (r ++ t) (length text) refl)
-    ∙ records-back endBytes (length text) (three (length text) l) ts 0 t (has .chain) in
+    ∙ records-back endBytes (length text) (three (length text) (omega arith)) ts 0 t (has .chain) in
     let z = length-file text ts flag in
     record {
       opens = record {
@@ -266,7 +265,7 @@ module _ (text list : List ℕ) (flag : ℕ) (file : List ℕ) where
   abbrev made : List ℕ
   made = fileOf text (tokensOf list) flag
 
-  pub saves-has : saving text list flag file .number ≡ Done → Saves text list flag × (saving text list flag file ≡ record { number = Done; value = length made; buffer = filled made file }) × (length made ≤ length file)
+  saves-has : saving text list flag file .number ≡ Done → Saves text list flag × (saving text list flag file ≡ record { number = Done; value = length made; buffer = filled made file })
   unfolding saving
   saves-has e =
       cond-ind F (tooLong text) _ _ (λ a f. absurd (omega (arith, f)))
@@ -275,10 +274,10 @@ module _ (text list : List ℕ) (flag : ℕ) (file : List ℕ) where
       (λ v. cond-ind F (ltb (length file) (length made)) _ _ (λ r f. absurd (omega (arith, f)))
       (λ r f.
       let q = and-both (eqb (length list % tokenBytes) 0) (accepted (length text) (tokensOf list) flag) (not-false (writable text list flag) w) in
-      (record { short = ltb-false maxQuerySize (length text) a; whole = eqb-true (q .0); fits = q .1; proper = not-false (valid text) v }, refl, ltb-false (length file) (length made) r))))) e
+      (record { short = ltb-false maxQuerySize (length text) a; whole = eqb-true (q .0); fits = q .1; proper = not-false (valid text) v }, refl))))) e
     where
       F : Written → Type 0
-      F w = w .number ≡ Done → Saves text list flag × (w ≡ record { number = Done; value = length made; buffer = filled made file }) × (length made ≤ length file)
+      F w = w .number ≡ Done → Saves text list flag × (w ≡ record { number = Done; value = length made; buffer = filled made file })
 
 -- What the reader does with a file that is accepted.
 pub load-done : (file list : List ℕ) → Opens file → countIn file ≤ room list → loading file list ≡ record { number = Done; value = countIn file; flag = flagIn file; buffer = filled (pack (listIn file)) list }

@@ -1,6 +1,6 @@
 -- #101: the bytes of records and of the trailer as numbers of 32 bits, as code stores and reads them.
 -- Assumes nothing.
-use Prim.Native.Nat.{ℕ, zero, suc, _+_, _-_, _*_, _/_, _%_, _^_, _<_}
+use Prim.Native.Nat.{ℕ, zero, suc, _+_, _-_, _*_, _/_, _%_, _<_}
 use native.Mathlib.Omega.{arith}
 use mathlib.Core.Path.{_≡_, refl, ap}
 use mathlib.Core.List.{List, [], _∷_, _++_}
@@ -28,10 +28,6 @@ record-kind records h = omega arith
 -- the trailer's last four bytes
 pub marks-bytes : (flag : ℕ) → flag < 256 → bytesOf32 (flag + version * 256) ≡ flag ∷ version ∷ 0 ∷ 0 ∷ []
 marks-bytes flag h = same-four (omega arith) (omega arith) (omega arith) (omega arith)
-
--- only the low 32 bits of a number are stored
-pub low-bytes : (n : ℕ) → bytesOf32 (n % 2 ^ 32) ≡ bytesOf32 n
-low-bytes n = same-four (omega arith) (omega arith) (omega arith) (omega arith)
 
 -- so many tokens of records from a place on, one by one
 pub records-more : (width start : ℕ) (file : List ℕ) (at n : ℕ) → 0 < n

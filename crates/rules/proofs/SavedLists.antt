@@ -94,13 +94,13 @@ module _ (text : List ℕ) (l : length text ≤ maxQuerySize) (ts : List Token) 
   room-pack : room (pack ts) ≡ length ts
   room-pack = omega (arith, length-pack ts)
 
-  pub tokens-of : tokensOf (pack ts) ≡ ts
+  tokens-of : tokensOf (pack ts) ≡ ts
   tokens-of =
       ap (λ (n : ℕ). unpack n (pack ts)) room-pack
       ∙ ap (unpack (length ts)) (sym (append-nil (pack ts)))
       ∙ list-back ts [] (chains-fit (length text) 0 ts (omega arith) (accepted-has (length text) ts flag e .chain))
 
-  pub pack-writable : writable text (pack ts) flag ≡ true
+  pack-writable : writable text (pack ts) flag ≡ true
   pack-writable =
       let z : length (pack ts) % tokenBytes ≡ 0 = omega (arith, length-pack ts) in
       rw (eq-eqb (length (pack ts) % tokenBytes) 0 z, tokens-of) e

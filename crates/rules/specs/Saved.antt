@@ -22,6 +22,7 @@ NoVersion = 9
 abbrev pub wholeFlag : ℕ
 wholeFlag = 0
 
+-- "A partial list holds the tokens, white space included, that start before a position." Of that only what is checked below is asked: "neither lexes".
 abbrev pub partialFlag : ℕ
 partialFlag = 1
 

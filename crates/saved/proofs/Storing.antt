@@ -1,6 +1,6 @@
 -- Records and tokens stored one by one: what is stored, with what is left to store, stays the same. And a file stored in three parts.
 -- Assumes nothing.
-use Prim.Native.Nat.{ℕ, _+_, _-_, _*_, _≤_, _<_}
+use Prim.Native.Nat.{ℕ, _+_, _-_, _≤_, _<_}
 use native.Mathlib.Omega.{arith}
 use mathlib.Core.Path.{_≡_, sym, ap, ap₂, _∙_}
 use mathlib.Core.List.{List, [], _++_}
@@ -10,10 +10,9 @@ use Rattle.rules.specs.Limits.{tokenBytes}
 use Rattle.rules.specs.Tokens.{Token}
 use Rattle.rules.specs.Listing.{packToken, pack, tokenIn, unpack}
 use Rattle.rules.specs.Answers.{filled}
-use Rattle.rules.specs.Saved.{endBytes, recordOf, recordBytes, recordsOf, trailerOf, endIn, tokenOfRecord, tokensIn}
+use Rattle.rules.specs.Saved.{endBytes, recordOf, recordBytes, recordsOf, endIn, tokenOfRecord, tokensIn}
 use Rattle.rules.proofs.Unpacking.{unpack-more, unpack-none}
 use Rattle.rules.proofs.SavedBytes.{records-more, records-none, records-of-none, records-of-more}
-use Rattle.rules.proofs.Saved.{length-file}
 use Rattle.lists.proofs.Packing.{put-first}
 
 -- the records of what is left of a packed list
@@ -47,10 +46,6 @@ tokens-put file at start list to = ap (λ (ts : List Token). sets list to (pack 
 -- as many bytes as before, where a front is copied
 pub length-front : (text file : List ℕ) → length text ≤ length file → length (text ++ drop (length text) file) ≡ length file
 length-front text file h = let l = length-append text (drop (length text) file) in let d = length-drop (length text) file in omega arith
-
--- the records of a list, by the length of the file that has them and no text
-pub length-records : (ts : List Token) → length (recordsOf endBytes ts) ≡ length ts * recordBytes endBytes
-length-records ts = let l = length-file [] ts 0 in let a = length-append (recordsOf endBytes ts) (trailerOf 0 (length ts) 0) in omega arith
 
 -- a front, and bytes stored after it
 pub file-filled : (text xs file : List ℕ) → length text + length xs ≤ length file → sets (text ++ drop (length text) file) (length text) xs ≡ filled (text ++ xs) file

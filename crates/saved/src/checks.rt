@@ -1,5 +1,5 @@
 // What writer and reader both check of a list: that its tokens chain, and that a full one ends with the text. Nothing is lexed.
-// The loops go on where a token does not fit: without a branch for it four tokens are tested at a time.
+// The loops go on where a token does not fit: without a branch for it the compiler tests eight tokens at a time.
 use crate::layout::RECORD_BYTES;
 use crate::layout::get_record;
 use lexer::syntax_kind::SyntaxKind;

@@ -15,6 +15,17 @@ pub const RECORD_BYTES: usize = 4;
 
 pub const TRAILER_BYTES: usize = 12;
 
+// Where its numbers and marks stand in it; the first is the offset.
+pub const COUNT_AT: usize = 4;
+
+pub const FLAG_AT: usize = 8;
+
+pub const VERSION_AT: usize = 9;
+
+pub const FIRST_ZERO_AT: usize = 10;
+
+pub const SECOND_ZERO_AT: usize = 11;
+
 pub const VERSION: u8 = 1;
 
 // As one number of 32 bits, whose low byte is the kind.

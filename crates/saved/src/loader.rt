@@ -7,9 +7,14 @@ use crate::TOO_LONG;
 use crate::Verdict;
 use crate::answer;
 use crate::checks::records_fit;
+use crate::layout::COUNT_AT;
+use crate::layout::FIRST_ZERO_AT;
+use crate::layout::FLAG_AT;
 use crate::layout::RECORD_BYTES;
+use crate::layout::SECOND_ZERO_AT;
 use crate::layout::TRAILER_BYTES;
 use crate::layout::VERSION;
+use crate::layout::VERSION_AT;
 use crate::layout::get_record;
 use lists::packed::get_u32;
 use lists::packed::put_token;
@@ -40,20 +45,20 @@ fn is_readable(file: &[u8]) -> bool
     let at = file.len() - TRAILER_BYTES;
     let offset = get_u32(file, at);
     let from = offset as usize;
-    let records = get_u32(file, at + 4) as usize;
+    let records = get_u32(file, at + COUNT_AT) as usize;
     if file.len() != from + records * RECORD_BYTES + TRAILER_BYTES {
         return false;
     }
-    if file[at + 10] != 0 {
+    if file[at + FIRST_ZERO_AT] != 0 {
         return false;
     }
-    if file[at + 11] != 0 {
+    if file[at + SECOND_ZERO_AT] != 0 {
         return false;
     }
-    records_fit(file, from, records, offset, wide(file[at + 8]))
+    records_fit(file, from, records, offset, wide(file[at + FLAG_AT]))
 }
 
-// What is answered where there is room enough: the text's bytes.
+// Number and value of a file's text, by every test but that for room.
 pub fn saved_text_answer(file: &[u8]) -> Verdict
     ensures { λ r. ⌜ r ≡ verdictOf (opening (now (file .entry))) ⌝ }
 {
@@ -61,7 +66,7 @@ pub fn saved_text_answer(file: &[u8]) -> Verdict
         return answer(MALFORMED, 0);
     }
     let at = file.len() - TRAILER_BYTES;
-    if file[at + 9] != VERSION {
+    if file[at + VERSION_AT] != VERSION {
         return answer(NO_VERSION, 0);
     }
     let size = get_u32(file, at) as usize;
@@ -120,7 +125,7 @@ pub fn load(file: &[u8], list: &mut [u8]) -> Loaded
         };
     }
     let at = file.len() - TRAILER_BYTES;
-    let records = get_u32(file, at + 4) as usize;
+    let records = get_u32(file, at + COUNT_AT) as usize;
     if list.len() / token_bytes() < records {
         return Loaded {
             number: NO_ROOM,
@@ -132,6 +137,6 @@ pub fn load(file: &[u8], list: &mut [u8]) -> Loaded
     Loaded {
         number: 0,
         value: records,
-        flag: wide(file[at + 8]),
+        flag: wide(file[at + FLAG_AT]),
     }
 }

@@ -22,6 +22,18 @@ fn both(name: &str, text: &[u8]) -> [Pair; 2] {
     [writing, reading]
 }
 
+/// Prints a row of the table.
+fn row(name: &str, text: &[u8]) -> [Pair; 2] {
+    let pairs = both(name, text);
+    let [writing, reading] = pairs.map(|pair| {
+        let (ms, speed) = (pair.ours * 1e3, text.len() as f64 / pair.ours / 1e6);
+        format!("{ms:11.3} | {speed:5.0} | {:5.2}", pair.ratio())
+    });
+    let listing = pairs[0].theirs.min(pairs[1].theirs) * 1e3;
+    println!("| {name:48} | {listing:13.3} | {writing} | {reading} |");
+    pairs
+}
+
 pub fn table(chosen: &Chosen) {
     const TITLE: &str = "Saved lists";
     let texts: Vec<_> = GROUPS[..3].iter().flat_map(|(_, texts)| chosen.of(TITLE, texts)).collect();
@@ -33,14 +45,12 @@ pub fn table(chosen: &Chosen) {
     println!("|{:-<50}|--------------:|------------:|------:|------:|------------:|------:|------:|", "");
     let mut ratios = [vec![], vec![]];
     for text in texts {
-        let pairs = both(text.0, &make(text, 0, SIZE));
-        let [writing, reading] = pairs.map(|pair| {
-            let (ms, speed) = (pair.ours * 1e3, SIZE as f64 / pair.ours / 1e6);
-            format!("{ms:11.3} | {speed:5.0} | {:5.2}", pair.ratio())
-        });
-        let listing = pairs[0].theirs.min(pairs[1].theirs) * 1e3;
-        println!("| {:48} | {listing:13.3} | {writing} | {reading} |", text.0);
+        let pairs = row(text.0, &make(text, 0, SIZE));
         ratios.iter_mut().zip(pairs).for_each(|(ratios, pair)| ratios.push(pair.ratio()));
+        // Most queries are shorter, and what is written and read then stays in the processor's own memory.
+        for size in if text.0 == "SQL" { [SIZE / 10, SIZE / 100].as_slice() } else { &[] } {
+            row(&format!("{} of {size} bytes", text.0), &make(text, 0, *size));
+        }
     }
     let [writing, reading] = ratios.map(|ratios| mean_and_worst(&ratios));
     for ((name, writing), (_, reading)) in writing.into_iter().zip(reading) {

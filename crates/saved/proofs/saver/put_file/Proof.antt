@@ -1,7 +1,7 @@
 -- `saved::saver::put_file` meets its contract: the text, the records after it, and the trailer after them. Assumes nothing.
 use Prim.Native.Nat.{ℕ, _+_, _*_, _/_, _≤_}
 use native.Mathlib.Omega.{arith}
-use mathlib.Core.Path.{_≡_, sym, ap, _∙_}
+use mathlib.Core.Path.{_≡_, refl, sym, ap, _∙_}
 use mathlib.Core.List.{List, _++_}
 use denote.Ref.{now}
 use lib.ListN.{length, length-append}
@@ -11,8 +11,9 @@ use Rattle.rules.specs.Listing.{room, unpack}
 use Rattle.rules.specs.Answers.{filled}
 use Rattle.rules.specs.Saved.{endBytes, recordBytes, recordsOf, trailerOf, trailerBytes}
 use Rattle.rules.proofs.Unpacking.{length-unpack}
+use Rattle.rules.proofs.Saved.{length-records}
 use Rattle.lists.proofs.Packing.{put-both}
-use Rattle.saved.proofs.Storing.{length-front, length-records, file-filled}
+use Rattle.saved.proofs.Storing.{length-front, file-filled}
 use Rattle.saved.proofs.saver.put_file.Statement.{statement}
 use Rattle.saved.proofs.saver.put_file.Tie as tie
 
@@ -65,7 +66,7 @@ returns c =
     let n : ℕ = length (list t) / t .before .before .token-bytes .result in
     let records : List ℕ = recordsOf endBytes (unpack n (list t)) in
     let trailer : List ℕ = trailerOf (length (text t)) n (st t .args .flag) in
-    let m = length-records (unpack n (list t)) in
+    let m = length-records endBytes (λ k. refl) (unpack n (list t)) in
     let k = length-unpack n (list t) in
     put-both (t .copy-front .last .1 .0) _ _ records trailer (length (text t)) _ (r .put-records .ensures .1) (omega (arith, r .put-records .ensures .0, m, k)) (p .put-trailer .ensures .1)
     ∙ ap (λ (f : List ℕ). sets f (length (text t)) (records ++ trailer)) (t .copy-front .ensures)
