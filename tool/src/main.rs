@@ -62,7 +62,7 @@ fn ended<'a>(statements: impl Iterator<Item = First<'a>>, end: u8) -> Vec<u8> {
     statements.flat_map(|statement| [statement.part, &[end]].concat()).collect()
 }
 
-/// What a command makes of a text.
+/// What a command makes of a text, or of a saved file.
 fn made(command: &Command, name: &str, text: &[u8]) -> Result<Vec<u8>, Refusal> {
     Ok(match *command {
         Command::List { lean: false } => with_list(text, giehtamun::list(text)?, list::lines),
@@ -73,20 +73,15 @@ fn made(command: &Command, name: &str, text: &[u8]) -> Result<Vec<u8>, Refusal> 
         Command::First { all: false, end } => ended([first_statement(text)?].into_iter(), end),
         Command::First { all: true, end } => ended(statements(text)?, end),
         Command::Save { .. } => giehtamun::save(text, &giehtamun::list(text)?, false)?,
-        Command::Open => unreachable!("a saved file is no text"),
+        Command::Open => opened(name, text)?,
     })
 }
 
 /// The lines of a saved list. One line on standard error says where it is partial, since nothing else does.
-fn opened(name: &str, file: &[u8]) -> Result<Vec<u8>, String> {
-    if file.len() > saved::LONGEST {
-        return Err(format!("longer than {} bytes, which no saved list is", saved::LONGEST));
-    }
-    let saved = saved::open(file).map_err(|(refusal, text)| match refusal {
-        // By the trailer, whatever there is.
-        Refusal::TooLong => format!("no saved list, or one of a text {refusal}"),
-        _ => reason(refusal, text),
-    })?;
+fn opened(name: &str, file: &[u8]) -> Result<Vec<u8>, Refusal> {
+    // Of a longer one the trailer was not read.
+    let file = if file.len() > saved::LONGEST { &[] } else { file };
+    let saved = giehtamun::load(file)?;
     if saved.partial {
         let end = saved.tokens.last().map_or(0, |token| token.end);
         let _ = writeln!(io::stderr(), "giehtamun: {name}: a partial list, which ends at byte {end} of {}", saved.text.len());
@@ -124,11 +119,12 @@ fn run(words: &[OsString]) -> Result<(), (u8, String)> {
     let failed = |why: String| (1, format!("{name}: {why}"));
     let most = if matches!(command, Command::Open) { saved::LONGEST } else { MAX_QUERY_SIZE };
     let bytes = read(file, most).map_err(|error| failed(error.to_string()))?;
-    let out = match command {
-        Command::Open => opened(&name, &bytes),
-        _ => made(&command, &name, &bytes).map_err(|refusal| reason(refusal, &bytes)),
-    };
-    let out = out.map_err(failed)?;
+    let out = made(&command, &name, &bytes).map_err(|refusal| match (&command, refusal) {
+        // By the trailer, whatever else there is.
+        (Command::Open, Refusal::TooLong) => failed(format!("no saved list, or one of a text {refusal}")),
+        (Command::Open, _) => failed(reason(refusal, saved::front(&bytes))),
+        _ => failed(reason(refusal, &bytes)),
+    })?;
     match command {
         Command::Save { out: to } if to != "-" => saved::write(file, to, &out).map_err(|error| (1, format!("{}: {error}", named(to, "")))),
         _ => print(&out).map_err(|error| (1, format!("standard output: {error}"))),

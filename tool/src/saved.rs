@@ -1,5 +1,5 @@
 //! What `save` writes and what `open` reads.
-use giehtamun::{MAX_QUERY_SIZE, Refusal, Saved, load};
+use giehtamun::MAX_QUERY_SIZE;
 use std::ffi::OsStr;
 use std::fs::{self, File, Metadata};
 use std::io::{self, ErrorKind, Write};
@@ -9,13 +9,8 @@ use std::path::{Path, PathBuf};
 /// The bytes of the longest file: the longest text, four for each of as many tokens, and twelve.
 pub const LONGEST: usize = 5 * MAX_QUERY_SIZE + 12;
 
-/// What a file holds, or why it is refused and the text of which that is said.
-pub fn open(file: &[u8]) -> Result<Saved<'_>, (Refusal, &[u8])> {
-    load(file).map_err(|refusal| (refusal, front(file)))
-}
-
 /// The bytes before the records, where a file has so many.
-fn front(file: &[u8]) -> &[u8] {
+pub fn front(file: &[u8]) -> &[u8] {
     let offset = file.last_chunk::<12>().map_or(0, |trailer| u32::from_le_bytes(*trailer.first_chunk().unwrap()));
     &file[..file.len().min(offset as usize)]
 }

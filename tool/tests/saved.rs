@@ -73,7 +73,7 @@ fn the_size_limit() {
     let file = prints_bytes(&["save", "-", "-"], &text);
     assert_eq!(file.len(), 5 * MAX_QUERY_SIZE + 12);
     assert_eq!(prints(&["open", "-"], &file), prints(&["list", "-"], &text));
-    refuses(&["open", "-"], &[&file[..], &[0]].concat(), "standard input: longer than 5000012 bytes, which no saved list is");
+    refuses(&["open", "-"], &[&file[..], &[0]].concat(), "standard input: no saved list, or no list that can be saved");
 }
 
 /// The lines are those that there are, and one more says that they are not all.
