@@ -4,6 +4,8 @@
 // bytes that were searched in vain are counted, and now and then one pass over the rest of the text finds out for many `$` at once that they begin no
 // here-document. What the pass finds is a number and some bits, and what is proved of them is only that no `$` is marked wrongly: the table that
 // the pass makes of the tags may hold anything.
+#![tactic(auto)]
+
 ghost use Rattle.std.specs.Prelude.{◌≡◌, ◌+◌, ◌<◌, ◌≤◌, true, length, drop, slice_index};
 ghost use Rattle.rules.specs.Dollars.{tag_byte};
 ghost use Rattle.rules.specs.Limits.{max_query_size};
@@ -29,7 +31,7 @@ fn mix(k: u32, h: u64, b: u8) -> u64
 }
 
 // The hash of a tag with the byte after it, and where its bytes end. The two keys take turns.
-#[derive(Drop)]
+#[derive(Clone, Copy)]
 struct Hashed {
     hash: u64,
     end: usize,
@@ -117,7 +119,7 @@ fn slot_of(table: &[u32], h: u64) -> usize
 }
 
 // The slot of a tag, and where its bytes end.
-#[derive(Drop)]
+#[derive(Clone, Copy)]
 struct Key {
     slot: usize,
     end: usize,
@@ -287,7 +289,7 @@ fn fill_bits(text: &[u8], at: usize, from: usize, table: &[u32], last: &[u32], l
 }
 
 // The state of a digest, and one round of SipHash.
-#[derive(Drop)]
+#[derive(Clone, Copy)]
 struct State {
     a: u64,
     b: u64,

@@ -1,4 +1,6 @@
 // The edges between runs of bytes, of 64 bytes at once, as the bits of a number.
+#![tactic(auto)]
+
 ghost use Rattle.std.specs.Prelude.{◌≡◌, ◌+◌, ◌*◌, ◌%◌, ◌≤◌, ◌^◌, length};
 ghost use Rattle.runs.specs.Lanes.{packed, others as others_of};
 ghost use Rattle.blocks.specs.Sets.{set};

@@ -4,6 +4,8 @@
 // character that no comparison tells, and lends it to `is_alphanumeric_in`, which has no ASCII path of its own. The table is two
 // indexes, one after the other; the bulk of the data, the strides, is a match, which is not copied. How the classes are held is
 // known in this crate alone.
+#![tactic(auto)]
+
 mod ranges;
 pub mod tables;
 

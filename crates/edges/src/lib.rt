@@ -1,4 +1,6 @@
 // The tokens of a text from edge to edge, as far as a token's first byte and the byte after it tell that it is one.
+#![tactic(auto)]
+
 ghost use Rattle.std.specs.Prelude.{◌≡◌, ℕ, ◌-◌, ◌≤◌, ◌<◌, leb, length, get_or, List};
 ghost use Rattle.rules.specs.Characters.{dollar, quote};
 ghost use Rattle.rules.specs.Kinds.{NoToken};
@@ -121,7 +123,7 @@ fn is_told(v: u32, u: u32) -> bool
 }
 
 // A token, and the edges that are left after it.
-#[derive(Drop)]
+#[derive(Clone, Copy)]
 pub struct Next {
     pub kind: u32,
     pub end: usize,

@@ -20,7 +20,7 @@ use rules::answer::Answer;
 use rules::{max_query_size, token_bytes};
 use steps::{Stepped, step};
 
-#[derive(Drop)]
+#[derive(Clone, Copy)]
 pub struct Reader<'a> {
     pub text: &'a [u8],
     pub at: usize,

@@ -1,4 +1,6 @@
 // Lists some texts in records and by a reader, and compares each list with the packed one. It prints a line a text: its bytes, number and value that `tokenize` answers, those of the reader, and how many lists differ.
+#![tactic(auto)]
+
 ghost use Rattle.std.specs.Prelude.{◌≡◌, ◌*◌, ◌≤◌, length};
 ghost use Rattle.rules.specs.Limits.{token_bytes};
 

@@ -1,4 +1,6 @@
 // The library as C functions. An answer is one number of 64 bits: see specs/Packed.antt.
+#![tactic(auto)]
+
 ghost use Rattle.std.specs.Prelude.{◌≡◌};
 ghost use Rattle.rules.specs.Widths.{Fits, FitsExtra, FitsHalves};
 ghost use Rattle.rules.specs.Answers.{listing, listing_up_to, step as step_at, token_text, shown_text, masked_copy, place_at};

@@ -1,4 +1,6 @@
 // The tokenizer: one token at a cursor.
+#![tactic(auto)]
+
 pub mod bytes;
 pub mod fast;
 pub mod syntax_kind;

@@ -1,5 +1,5 @@
 // The kinds by the Rust's names. Their numbers are document 01's.
-#[derive(Drop)]
+#[derive(Clone, Copy)]
 pub struct SyntaxKind(pub u32);
 
 impl SyntaxKind {

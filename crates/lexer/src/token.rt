@@ -3,7 +3,7 @@ ghost use Rattle.std.specs.Prelude.{◌≡◌, ◌/◌, ◌%◌, ◌^◌};
 ghost use Rattle.lexer.specs.Ends.{joined};
 
 // Its kind, and the offsets of its first byte and of the first byte after it.
-#[derive(Drop)]
+#[derive(Clone, Copy)]
 pub struct Token {
     pub kind: u32,
     pub start: u32,
@@ -11,7 +11,7 @@ pub struct Token {
 }
 
 // What a reader finds: the kind, and where it ends.
-#[derive(Drop)]
+#[derive(Clone, Copy)]
 pub struct Lexed {
     pub kind: u32,
     pub end: usize,

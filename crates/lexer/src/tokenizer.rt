@@ -335,7 +335,7 @@ fn read_multi_line_comment(text: &[u8], at: usize) -> Lexed
 }
 
 // How a number opens: whether its digits are hex, and how many bytes stand before the first run.
-#[derive(Drop)]
+#[derive(Clone, Copy)]
 pub struct Opened {
     pub hex: bool,
     pub size: usize,
@@ -377,7 +377,7 @@ fn read_fraction(text: &[u8], at: usize, hex: bool) -> usize
 }
 
 // Where a part of a number ends, and whether it ended well.
-#[derive(Drop)]
+#[derive(Clone, Copy)]
 pub struct Part {
     pub well: bool,
     pub end: usize,

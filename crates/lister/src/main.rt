@@ -1,4 +1,6 @@
 // Prints the full list of the text on standard input, or why there is none.
+#![tactic(auto)]
+
 ghost use Rattle.std.specs.Prelude.{◌≡◌, ◌*◌, ◌≤◌, length};
 ghost use Rattle.rules.specs.Limits.{token_bytes};
 ghost use Rattle.lister.specs.Input.{count_of};
@@ -30,7 +32,7 @@ fn list_space() -> [u8; LIST_SPACE]
     [0; LIST_SPACE]
 }
 
-#[derive(Drop)]
+#[derive(Clone, Copy)]
 enum Input {
     Bytes(usize),
     Failed,

@@ -19,7 +19,7 @@ use rules::{max_query_size, token_bytes};
 use utf8::valid_length;
 
 // What a listing is asked for. `tokenize` does not look at the position. Each setter hands the settings back changed, so calls chain.
-#[derive(Drop)]
+#[derive(Clone, Copy)]
 pub struct Settings {
     pub mode: u32,
     pub position: usize,
@@ -64,7 +64,7 @@ impl Settings {
 }
 
 // Which tokens a list has: those that start before the position, without the kinds that it drops. The position lies in the text.
-#[derive(Drop)]
+#[derive(Clone, Copy)]
 pub struct Choice {
     pub position: usize,
     pub drop_whitespace: bool,
@@ -72,7 +72,7 @@ pub struct Choice {
 }
 
 // What a listing is to do, as far as the room does not decide it.
-#[derive(Drop)]
+#[derive(Clone, Copy)]
 pub enum Plan {
     Refused(Answer),
     // The list that `tokenize` gives of a text that is too long.
@@ -98,7 +98,7 @@ fn bit_if(test: bool, bit: u64) -> u64
 }
 
 // How far a text is counted: the tokens that are kept before a cursor.
-#[derive(Drop)]
+#[derive(Clone, Copy)]
 pub struct Counted {
     pub cursor: usize,
     pub tokens: usize,
@@ -185,7 +185,7 @@ pub fn needed(text: &[u8], choice: Choice, room: usize) -> usize
 }
 
 // How far a list is stored: the bytes of the tokens that are kept before a cursor.
-#[derive(Drop)]
+#[derive(Clone, Copy)]
 pub struct Stored {
     pub cursor: usize,
     pub bytes: usize,

@@ -20,7 +20,7 @@ use rules::answer::Answer;
 
 // How far a list is picked: by which plan, whether there was one more token and which, and from where on the next one is looked for. `until` and
 // `wasted` are of the looks ahead.
-#[derive(Drop)]
+#[derive(Clone, Copy)]
 pub struct Picking {
     pub plan: Plan,
     pub found: bool,

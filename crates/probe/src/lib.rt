@@ -1,4 +1,6 @@
 // Decoding and classes as C functions, for the host's tests of these two alone.
+#![tactic(auto)]
+
 ghost use Rattle.std.specs.Prelude.{◌≡◌, drop};
 ghost use Rattle.rules.specs.Utf8.{valid_length};
 ghost use Rattle.rules.specs.Classes.{white_space, alphabetic, alphanumeric};

@@ -1,1 +1,2 @@
 // What the contracts of the crates below promise together: see proofs.
+#![tactic(auto)]

@@ -8,7 +8,7 @@ use lists::listing::{Settings, tokenize};
 use lists::packed::get_u32;
 use rules::TOKEN_BYTES;
 
-#[derive(Drop)]
+#[derive(Clone, Copy)]
 pub struct Case {
     // In bytes, of the whole case; 0 where the file is cut short.
     pub size: usize,

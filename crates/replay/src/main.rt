@@ -1,6 +1,8 @@
 // Lists each text of the file `answers` and compares with the list that the Rust tokenizer gave, which the file has after it.
 //
 // The file is cases with nothing before, between or after them: the length of the text, the text, the number of its tokens, and its full list, packed. Both numbers have four bytes, low byte first. Cases count from 1.
+#![tactic(auto)]
+
 mod cases;
 
 ghost use Rattle.std.specs.Prelude.{◌≡◌, length};

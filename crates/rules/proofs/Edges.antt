@@ -93,6 +93,7 @@ tiles_count from (t ∷ ts) to p = let r = tiles_count t.end ts to p.2 in omega 
 
 -- Every token has at least one byte, and lies between the two ends.
 pub tiles_in : (from : ℕ) (ts : List Token) (to : ℕ) → Tiles from ts to → {t : Token} → Memᴰ t ts → (from ≤ t.start) × (t.start < t.end) × (t.end ≤ to)
+tiles_in from [] to p {t = t} x'' = elim x'' [ ]
 tiles_in from (u ∷ ts) to p (Memᴰ.head e) =
     let a : _ ≡ u.start = ap (λ (t : Token). t.start) e in
     let b : _ ≡ u.end = ap (λ (t : Token). t.end) e in

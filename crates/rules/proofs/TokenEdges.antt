@@ -72,6 +72,7 @@ module _ (s : List ℕ) where
           subst Bounded (sym (from_step s i h)) ((subst (Edge s) (sym p.0) edge, e), ih (token_at s i).end (omega arith) e)
 
   among : (ts : List Token) → Bounded ts → {t : Token} → Memᴰ t ts → Edge s t.start × Edge s t.end
+  among [] b {t = t} x'' = elim x'' [ ]
   among (u ∷ ts) b (Memᴰ.head e) = (subst (λ (t : Token). Edge s t.start) (sym e) b.0.0, subst (λ (t : Token). Edge s t.end) (sym e) b.0.1)
   among (u ∷ ts) b (Memᴰ.tail m) = among ts b.1 m
 

@@ -1,4 +1,6 @@
 // The numbers of document 01 that a later request may change, as code reads them. The definitions are in specs/Limits.antt.
+#![tactic(auto)]
+
 pub mod answer;
 
 ghost use Rattle.std.specs.Prelude.{◌≡◌};

@@ -1,4 +1,6 @@
 // Runs of bytes of a class, eight at a time: each ends where eight bytes are no longer left, and its caller goes on byte by byte; and bytes copied.
+#![tactic(auto)]
+
 ghost use Rattle.std.specs.Prelude.{◌≡◌, Bool, true, false, ◌&&◌, ◌++◌, ℕ, ◌+◌, ◌-◌, ◌*◌, ◌≤◌, ◌<◌, length, get_or, drop};
 ghost use Rattle.runs.specs.Classes.{Edges, inside, passes, Skips, Unpaired};
 ghost use Rattle.runs.specs.Lanes.{ones, packed, others};

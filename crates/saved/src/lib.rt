@@ -1,4 +1,6 @@
 // Saved token lists: a text and its list in one file, written and read without lexing.
+#![tactic(auto)]
+
 pub mod checks;
 pub mod layout;
 pub mod loader;
@@ -9,7 +11,7 @@ ghost use Rattle.rules.specs.Saved.{verdict};
 ghost use Rattle.saved.specs.Answered.{verdict_of};
 
 // What is answered: document 02's number, and a value.
-#[derive(Drop)]
+#[derive(Clone, Copy)]
 pub struct Verdict {
     pub number: u32,
     pub value: usize,

@@ -17,7 +17,7 @@ use rules::{max_query_size, token_bytes};
 use utf8::valid_length;
 
 // A list that is read: document 02's number, a value, and the flag.
-#[derive(Drop)]
+#[derive(Clone, Copy)]
 pub struct Loaded {
     pub number: u32,
     pub value: usize,

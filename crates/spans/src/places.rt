@@ -14,7 +14,7 @@ use rules::max_query_size;
 use utf8::{byte_at, is_tail, len_at};
 
 // What `place` gives: document 01's number and value, and the place.
-#[derive(Drop)]
+#[derive(Clone, Copy)]
 pub struct Placed {
     pub number: u32,
     pub value: usize,
@@ -23,7 +23,7 @@ pub struct Placed {
 }
 
 // What is counted in a block, told by a byte and the two after it.
-#[derive(Drop)]
+#[derive(Clone, Copy)]
 pub enum Mark {
     // A line end, at the byte that it ends with.
     End,
@@ -38,14 +38,14 @@ pub enum Mark {
 }
 
 // The line that an index is in: where it starts, and what its characters before the index have more of bytes than of units.
-#[derive(Drop)]
+#[derive(Clone, Copy)]
 pub struct Line {
     pub start: usize,
     pub surplus: usize,
 }
 
 // The least and the greatest byte of a block, or beyond.
-#[derive(Drop)]
+#[derive(Clone, Copy)]
 pub struct Extent {
     pub least: u8,
     pub most: u8,

@@ -1,4 +1,6 @@
 // The first statement of a text: its tokens are read up to the first delimiter and no further.
+#![tactic(auto)]
+
 ghost use Rattle.std.specs.Prelude.{◌≡◌, ◌≤◌, length};
 ghost use Rattle.rules.specs.Limits.{max_query_size};
 ghost use Rattle.rules.specs.Statements.{delimiter, first_statement};
@@ -13,7 +15,7 @@ use rules::max_query_size;
 
 // What the first statement is: document 01's number, the tokens read, its delimiter among them, the bytes that stand before the delimiter, and
 // where the delimiter ends.
-#[derive(Drop)]
+#[derive(Clone, Copy)]
 pub struct First {
     pub number: u32,
     pub tokens: usize,
@@ -23,7 +25,7 @@ pub struct First {
 
 // How far a text is read: so many tokens, up to a cursor. The bytes are what stands before a delimiter that was read last, and so lie before the
 // cursor; until one is read they are all of the text.
-#[derive(Drop)]
+#[derive(Clone, Copy)]
 pub struct Reading {
     pub cursor: usize,
     pub tokens: usize,

@@ -1,4 +1,6 @@
 // One token at a cursor.
+#![tactic(auto)]
+
 ghost use Rattle.std.specs.Prelude.{◌≡◌};
 ghost use Rattle.rules.specs.Answers.{refused_step, step};
 ghost use Rattle.steps.specs.Stepped.{stepped};
@@ -7,7 +9,7 @@ use lexer::token::{Token, end_of, kind_of};
 use lexer::tokenizer::next_token;
 
 // What a step gives: document 01's number and value, the token, and the cursor to go on from.
-#[derive(Drop)]
+#[derive(Clone, Copy)]
 pub struct Stepped {
     pub number: u32,
     pub value: usize,

@@ -1,9 +1,11 @@
 // UTF-8, as RFC 3629 has it: what a text has at a position, and how far it is well-formed.
+#![tactic(auto)]
+
 ghost use Rattle.std.specs.Prelude.{◌≡◌, true, ◌&&◌, ℕ, ◌+◌, ◌%◌, ◌≤◌, ◌<◌, length, get_or, drop};
 ghost use Rattle.rules.specs.Utf8.{within, utf8_tail, utf8_three, utf8_four, well_formed, broken_length, code_of, valid_length};
 ghost use Rattle.utf8.specs.Units.{unit_at, unit_code, unit_len, Passes, after_tail, after_tails, takes_tail};
 
-#[derive(Drop)]
+#[derive(Clone, Copy)]
 pub enum Unit {
     Char { code: u32, len: usize },
     // No character begins here, but `len` bytes that begin one, or a byte that begins none.
