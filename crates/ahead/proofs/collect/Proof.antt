@@ -3,18 +3,18 @@ use Rattle.std.proofs.Common.{◌≡◌, ◌-◌, ◌<◌, ◌≤◌, length, ar
 use Rattle.ahead.proofs.collect.Statement.{statement}
 use Rattle.ahead.proofs.collect.Tie as tie
 
-abbrev invariant-loop : tie.invariant-loop
-invariant-loop text from table₀ free₀ j₀ table free j = (length table ≡ length table₀) × (from ≤ j) × (j ≤ length text) × (0 < free)
+abbrev invariant-loop-j : tie.invariant-loop-j
+invariant-loop-j text from table₀ free₀ j₀ table free j = (length table ≡ length table₀) × (from ≤ j) × (j ≤ length text) × (0 < free)
 
-abbrev decreases-loop : tie.decreases-loop
-decreases-loop text from table₀ free₀ j₀ table free j = length text - j
+abbrev decreases-loop-j : tie.decreases-loop-j
+decreases-loop-j text from table₀ free₀ j₀ table free j = length text - j
 
-pub collect-spec : {M : Type 1} → statement M
-collect-spec =
+pub collect_spec : {M : Type 1} → statement M
+collect_spec =
     tie.close
     (tie.spec
-    invariant-loop
-    decreases-loop
+    invariant-loop-j
+    decreases-loop-j
     (λ c. omega arith)
     (λ c. omega arith)
     (λ c. omega arith)

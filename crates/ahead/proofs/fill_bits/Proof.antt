@@ -6,28 +6,28 @@ use Rattle.ahead.proofs.Bits.{bit_none, words_more}
 use Rattle.ahead.proofs.fill_bits.Statement.{statement}
 use Rattle.ahead.proofs.fill_bits.Tie as tie
 
-abbrev invariant-loop : tie.invariant-loop
-invariant-loop text at from table last words₀ m₀ words m = (length words ≡ length words₀) × (m ≤ length words₀) × LoneWords text at words m
+abbrev invariant-loop-m : tie.invariant-loop-m
+invariant-loop-m text at from table last words₀ m₀ words m = (length words ≡ length words₀) × (m ≤ length words₀) × LoneWords text at words m
 
-abbrev decreases-loop : tie.decreases-loop
-decreases-loop text at from table last words₀ m₀ words m = length words₀ - m
+abbrev decreases-loop-m : tie.decreases-loop-m
+decreases-loop-m text at from table last words₀ m₀ words m = length words₀ - m
 
-loop-again : tie.Need-loop-preserved invariant-loop decreases-loop
-loop-again c =
+loop-m-preserved : tie.Need-loop-m-preserved invariant-loop-m decreases-loop-m
+loop-m-preserved c =
     let l = c.before.before in
     let a = l.before.before.before.before.before.args in
-    let v = l.loop.invariant in
+    let v = l.loop-m.invariant in
     ⊎_elim
-    (λ w. (rw w.1 (simp length-set v.0), omega arith, subst (λ (x : List ℕ). LoneWords a.text.now a.at x (l.loop.m + 1)) (sym w.1) (words_more a.text.now a.at l.loop.lone l.loop.m 0 (omega arith) v.2 (λ k e. clash e (bit_none k)))))
-    (λ w. (rw w.2 (simp length-set v.0), omega arith, subst (λ (x : List ℕ). LoneWords a.text.now a.at x (l.loop.m + 1)) (sym w.2) (words_more a.text.now a.at l.loop.lone l.loop.m w.1.result (omega arith) v.2 w.1.ensures)))
-    c.if1.branch
+    (λ w. (rw w.1 (simp length-set v.0), omega arith, subst (λ (x : List ℕ). LoneWords a.text.now a.at x (l.loop-m.m + 1)) (sym w.1) (words_more a.text.now a.at l.loop-m.lone l.loop-m.m 0 (omega arith) v.2 (λ k e. clash e (bit_none k)))))
+    (λ w. (rw w.2 (simp length-set v.0), omega arith, subst (λ (x : List ℕ). LoneWords a.text.now a.at x (l.loop-m.m + 1)) (sym w.2) (words_more a.text.now a.at l.loop-m.lone l.loop-m.m w.1.result (omega arith) v.2 w.1.ensures)))
+    c.if-text-at.branch-raw
 
-pub fill-bits-spec : {M : Type 1} → statement M
-fill-bits-spec =
+pub fill_bits_spec : {M : Type 1} → statement M
+fill_bits_spec =
     tie.close
     (tie.spec
-    invariant-loop
-    decreases-loop
+    invariant-loop-m
+    decreases-loop-m
     (λ c. (refl, omega arith, λ m h. absurd (omega arith)))
     (λ c. omega arith)
     (λ c. omega arith)
@@ -39,6 +39,6 @@ fill-bits-spec =
     (λ c. omega arith)
     (λ c. omega arith)
     (λ c. omega arith)
-    loop-again
-    (λ c. c.before.loop.invariant.0)
-    (λ c. let l = c.before in let e : l.loop.m ≡ length l.loop.lone = omega arith in let a = l.before.before.before.before.before.args in subst (LoneWords a.text.now a.at l.loop.lone) e l.loop.invariant.2))
+    loop-m-preserved
+    (λ c. c.before.loop-m.invariant.0)
+    (λ c. let l = c.before in let e : l.loop-m.m ≡ length l.loop-m.lone = omega arith in let a = l.before.before.before.before.before.args in subst (LoneWords a.text.now a.at l.loop-m.lone) e l.loop-m.invariant.2))

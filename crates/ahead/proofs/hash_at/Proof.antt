@@ -10,58 +10,58 @@ use Rattle.ahead.proofs.Slots.{hash_tag, hash_over, hash_end}
 use Rattle.ahead.proofs.hash_at.Statement.{statement}
 use Rattle.ahead.proofs.hash_at.Tie as tie
 
-abbrev invariant-loop : tie.invariant-loop
-invariant-loop text at first second a₀ b₀ h₀ j₀ a b h j = (at ≤ j) × (j ≤ length text) × ((k : ℕ) → k < j → at ≤ k → tag_byte (get_or text k 0) ≡ true) × (hash_from a b h (drop j text) ≡ hash_from first second first (drop at text))
+abbrev invariant-loop-j : tie.invariant-loop-j
+invariant-loop-j text at first second a₀ b₀ h₀ j₀ a b h j = (at ≤ j) × (j ≤ length text) × ((k : ℕ) → k < j → at ≤ k → tag_byte (get_or text k 0) ≡ true) × (hash_from a b h (drop j text) ≡ hash_from first second first (drop at text))
 
-abbrev decreases-loop : tie.decreases-loop
-decreases-loop text at first second a₀ b₀ h₀ j₀ a b h j = length text - j
+abbrev decreases-loop-j : tie.decreases-loop-j
+decreases-loop-j text at first second a₀ b₀ h₀ j₀ a b h j = length text - j
 
-ended : (l : tie.At-loop invariant-loop decreases-loop) → let a = l.before.before.args in tag_byte (get_or a.text.now l.loop.j 0) ≡ false → TagEnd a.text.now a.at l.loop.j
-ended l o = let v = l.loop.invariant in record { from = v.0; upto = v.1; tags = v.2; over = o }
+ended : (l : tie.At-loop-j invariant-loop-j decreases-loop-j) → let a = l.before.before.args in tag_byte (get_or a.text.now l.loop-j.j 0) ≡ false → TagEnd a.text.now a.at l.loop-j.j
+ended l o = let v = l.loop-j.invariant in record { from = v.0; upto = v.1; tags = v.2; over = o }
 
-returns : tie.Need-returns invariant-loop decreases-loop
-returns c =
+returns-then-not-is_tag_byte : tie.Need-returns-then-not-is_tag_byte invariant-loop-j decreases-loop-j
+returns-then-not-is_tag_byte c =
     let t = c.before.before in
     let l = t.before.before.before.before in
     let s = l.before.before.args.text.now in
-    let o = sym t.before.is-tag-byte.ensures ∙ not-true _ t.if1.true in
-    (c.mix2.ensures ∙ ap (λ (x : ℕ). mixed l.loop.b x 0) c.before.mix.ensures ∙ sym (hash_over l.loop.a l.loop.b l.loop.h s l.loop.j (omega arith) o) ∙ l.loop.invariant.3, ended l o)
+    let o = sym t.before.is_tag_byte.ensures ∙ not-true _ t.if-not-is_tag_byte.true in
+    (c.mix-then-not-is_tag_byte.ensures ∙ ap (λ (x : ℕ). mixed l.loop-j.b x 0) c.before.mix.ensures ∙ sym (hash_over l.loop-j.a l.loop-j.b l.loop-j.h s l.loop-j.j (omega arith) o) ∙ l.loop-j.invariant.3, ended l o)
 
-loop-again : tie.Need-loop-preserved invariant-loop decreases-loop
-loop-again c =
+loop-j-preserved : tie.Need-loop-j-preserved invariant-loop-j decreases-loop-j
+loop-j-preserved c =
     let t = c.before in
     let l = t.before.before.before.before in
     let s = l.before.before.args.text.now in
-    let o = sym t.before.is-tag-byte.ensures ∙ not-false _ t.if1.false in (
+    let o = sym t.before.is_tag_byte.ensures ∙ not-false _ t.if-not-is_tag_byte.false in (
       omega arith,
       omega arith,
-      below_more _ _ l.loop.invariant.2 (λ h. o),
-      ap (λ (x : ℕ). hash_from l.loop.b l.loop.a x (drop (l.loop.j + 1) s)) c.mix3.ensures ∙ sym (hash_tag l.loop.a l.loop.b l.loop.h s l.loop.j (omega arith) o) ∙ l.loop.invariant.3,
+      below_more _ _ l.loop-j.invariant.2 (λ h. o),
+      ap (λ (x : ℕ). hash_from l.loop-j.b l.loop-j.a x (drop (l.loop-j.j + 1) s)) c.mix-h.ensures ∙ sym (hash_tag l.loop-j.a l.loop-j.b l.loop-j.h s l.loop-j.j (omega arith) o) ∙ l.loop-j.invariant.3,
     )
 
-returns-2 : tie.Need-returns-2 invariant-loop decreases-loop
-returns-2 c =
+returns : tie.Need-returns invariant-loop-j decreases-loop-j
+returns c =
     let l = c.before.before.before in
     let s = l.before.before.args.text.now in
-    let z = get_or-eq_default s 0 c.before.before.loop-test.false in
-    (c.mix5.ensures ∙ ap (λ (x : ℕ). mixed l.loop.b x 0) c.before.mix4.ensures ∙ sym (hash_end l.loop.a l.loop.b l.loop.h s l.loop.j c.before.before.loop-test.false) ∙ l.loop.invariant.3, ended l (ap tag_byte z))
+    let z = get_or-eq_default s 0 c.before.before.loop-j-test.false in
+    (c.mix-3.ensures ∙ ap (λ (x : ℕ). mixed l.loop-j.b x 0) c.before.mix-2.ensures ∙ sym (hash_end l.loop-j.a l.loop-j.b l.loop-j.h s l.loop-j.j c.before.before.loop-j-test.false) ∙ l.loop-j.invariant.3, ended l (ap tag_byte z))
 
-pub hash-at-spec : {M : Type 1} → statement M
-hash-at-spec =
+pub hash_at_spec : {M : Type 1} → statement M
+hash_at_spec =
     tie.close
     (tie.spec
-    invariant-loop
-    decreases-loop
+    invariant-loop-j
+    decreases-loop-j
     (λ c. (omega arith, omega arith, (λ k u l. absurd (omega arith)), refl))
     (λ c. omega arith)
     (λ c κs. search rules)
     (λ c κs. search rules)
     (λ c κs. search rules)
-    returns
+    returns-then-not-is_tag_byte
     (λ c κs. search rules)
     (λ c. omega arith)
     (λ c. omega arith)
-    loop-again
+    loop-j-preserved
     (λ c κs. search rules)
     (λ c κs. search rules)
-    returns-2)
+    returns)

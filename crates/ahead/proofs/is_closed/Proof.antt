@@ -3,18 +3,18 @@ use Rattle.std.proofs.Common.{◌-◌, length, arith, rules}
 use Rattle.ahead.proofs.is_closed.Statement.{statement}
 use Rattle.ahead.proofs.is_closed.Tie as tie
 
-abbrev invariant-loop : tie.invariant-loop
-invariant-loop text at j₀ j = Unit
+abbrev invariant-loop-j : tie.invariant-loop-j
+invariant-loop-j text at j₀ j = Unit
 
-abbrev decreases-loop : tie.decreases-loop
-decreases-loop text at j₀ j = length text - j
+abbrev decreases-loop-j : tie.decreases-loop-j
+decreases-loop-j text at j₀ j = length text - j
 
-pub is-closed-spec : {M : Type 1} → statement M
-is-closed-spec =
+pub is_closed_spec : {M : Type 1} → statement M
+is_closed_spec =
     tie.close
     (tie.spec
-    invariant-loop
-    decreases-loop
+    invariant-loop-j
+    decreases-loop-j
     (λ c. tt)
     (λ c. omega arith)
     (λ c κs. search rules)

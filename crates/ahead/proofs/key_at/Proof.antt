@@ -5,10 +5,10 @@ use Rattle.ahead.proofs.key_at.Statement.{statement}
 use Rattle.ahead.proofs.key_at.Tie as tie
 
 returns : tie.Need-returns
-returns c = (c.slot_of.ensures ∙ ap (slot_of c.before.before.before.before.before.before.args.table.now) c.before.hash_at.ensures.0, c.before.hash_at.ensures.1)
+returns c = (c.slot_of.ensures ∙ ap (slot_of c.before.before.before.before.before.before.args.table.now) c.before.hash_at-hashed.ensures.0, c.before.hash_at-hashed.ensures.1)
 
-pub key-at-spec : {M : Type 1} → statement M
-key-at-spec =
+pub key_at_spec : {M : Type 1} → statement M
+key_at_spec =
     tie.close
     (tie.spec
     (λ c. search rules)

@@ -10,22 +10,22 @@ use Rattle.ahead.proofs.look_ahead.Tie as tie
 table : (c : tie.After-prepare) → length c.prepare.new.1.1.0 ≡ table_size
 table c = c.prepare.auto.1.1.0 ∙ length-replicate {A = ℕ} table_size 0
 
-fill-bits-requires : tie.Need-fill-bits-requires
-fill-bits-requires c κs =
+fill_bits-requires : tie.Need-fill_bits-requires
+fill_bits-requires c κs =
     let u = c.before.before.before in
     let n = u.before.before.before.before in
     let t = n.before.before.before.before in
-    (table t, u.lone-until.ensures.1, u.lone-until.ensures.2, n.note-last.ensures)
+    (table t, u.lone_until-until.ensures.1, u.lone_until-until.ensures.2, n.note_last.ensures)
 
 returns : tie.Need-returns
 returns c =
     let f = c.before.before in
     let u = f.before.before.before.before in
     let a = u.before.before.before.before.before.before.before.before.before.before.before.before.args in
-    all_marked a.text.now a.from u.lone-until.result f.fill-bits.new.1.1.1.1.1.0 u.lone-until.ensures.0 f.fill-bits.ensures
+    all_marked a.text.now a.from u.lone_until-until.result f.fill_bits.new.1.1.1.1.1.0 u.lone_until-until.ensures.0 f.fill_bits.ensures
 
-pub look-ahead-spec : {M : Type 1} → statement M
-look-ahead-spec =
+pub look_ahead_spec : {M : Type 1} → statement M
+look_ahead_spec =
     tie.close
     (tie.spec
     (λ c. search rules)
@@ -35,9 +35,9 @@ look-ahead-spec =
     (λ c κs. (table c.before.before.before, c.before.before.before.before.before.before.before.requires.0))
     (λ c. search rules)
     (λ c. search rules)
-    (λ c κs. let n = c.before.before.before in (table n.before.before.before.before, n.before.before.before.before.before.before.before.before.requires.1, n.note-last.ensures))
+    (λ c κs. let n = c.before.before.before in (table n.before.before.before.before, n.before.before.before.before.before.before.before.before.requires.1, n.note_last.ensures))
     (λ c. search rules)
     (λ c. search rules)
-    fill-bits-requires
+    fill_bits-requires
     (λ c. search rules)
     returns)

@@ -5,50 +5,50 @@ use Rattle.ahead.proofs.Slots.{probed_here, probed_none, probed_next, probed_ove
 use Rattle.ahead.proofs.probe.Statement.{statement}
 use Rattle.ahead.proofs.probe.Tie as tie
 
-abbrev invariant-loop : tie.invariant-loop
-invariant-loop table f at i₀ n₀ i n = (i + n ≤ 81983) × (probed table f i n ≡ probed table f at 64)
+abbrev invariant-loop-n : tie.invariant-loop-n
+invariant-loop-n table f at i₀ n₀ i n = (i + n ≤ 81983) × (probed table f i n ≡ probed table f at 64)
 
-abbrev decreases-loop : tie.decreases-loop
-decreases-loop table f at i₀ n₀ i n = n
+abbrev decreases-loop-n : tie.decreases-loop-n
+decreases-loop-n table f at i₀ n₀ i n = n
 
-returns : tie.Need-returns invariant-loop decreases-loop
-returns c =
+returns-then-x-f : tie.Need-returns-then-x-f invariant-loop-n decreases-loop-n
+returns-then-x-f c =
     let l = c.before.before.before in
     let a = l.before.args in
-    sym (probed_here a.table.now a.f l.loop.i l.loop.n (omega arith) c.if1.true) ∙ l.loop.invariant.1
+    sym (probed_here a.table.now a.f l.loop-n.i l.loop-n.n (omega arith) c.if-x-f.true) ∙ l.loop-n.invariant.1
 
-returns-2 : tie.Need-returns-2 invariant-loop decreases-loop
-returns-2 c =
+returns-then-x-eq0 : tie.Need-returns-then-x-eq0 invariant-loop-n decreases-loop-n
+returns-then-x-eq0 c =
     let l = c.before.before.before.before in
     let a = l.before.args in
-    sym (probed_none a.table.now a.f l.loop.i l.loop.n (omega arith) c.before.if1.false c.if2.true) ∙ l.loop.invariant.1
+    sym (probed_none a.table.now a.f l.loop-n.i l.loop-n.n (omega arith) c.before.if-x-f.false c.if-x-eq0.true) ∙ l.loop-n.invariant.1
 
-loop-again : tie.Need-loop-preserved invariant-loop decreases-loop
-loop-again c =
+loop-n-preserved : tie.Need-loop-n-preserved invariant-loop-n decreases-loop-n
+loop-n-preserved c =
     let l = c.before.before.before.before in
     let a = l.before.args in
-    (omega arith, sym (probed_next a.table.now a.f l.loop.i l.loop.n (omega arith) c.before.if1.false c.if2.false) ∙ l.loop.invariant.1)
+    (omega arith, sym (probed_next a.table.now a.f l.loop-n.i l.loop-n.n (omega arith) c.before.if-x-f.false c.if-x-eq0.false) ∙ l.loop-n.invariant.1)
 
-returns-3 : tie.Need-returns-3 invariant-loop decreases-loop
-returns-3 c =
+returns : tie.Need-returns invariant-loop-n decreases-loop-n
+returns c =
     let l = c.before in
     let a = l.before.args in
-    let z : l.loop.n ≡ 0 = omega arith in
-    sym (ap (probed a.table.now a.f l.loop.i) z ∙ probed_over a.table.now a.f l.loop.i) ∙ l.loop.invariant.1
+    let z : l.loop-n.n ≡ 0 = omega arith in
+    sym (ap (probed a.table.now a.f l.loop-n.i) z ∙ probed_over a.table.now a.f l.loop-n.i) ∙ l.loop-n.invariant.1
 
-pub probe-spec : {M : Type 1} → statement M
-probe-spec =
+pub probe_spec : {M : Type 1} → statement M
+probe_spec =
     tie.close
     (tie.spec
-    invariant-loop
-    decreases-loop
+    invariant-loop-n
+    decreases-loop-n
     (λ c. (omega arith, refl))
     (λ c. omega arith)
     (λ c. omega arith)
-    returns
-    returns-2
+    returns-then-x-f
+    returns-then-x-eq0
     (λ c. omega arith)
     (λ c. omega arith)
     (λ c. omega arith)
-    loop-again
-    returns-3)
+    loop-n-preserved
+    returns)

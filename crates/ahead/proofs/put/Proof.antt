@@ -3,18 +3,18 @@ use Rattle.std.proofs.Common.{◌≡◌, ◌+◌, ◌≤◌, length, refl, arith
 use Rattle.ahead.proofs.put.Statement.{statement}
 use Rattle.ahead.proofs.put.Tie as tie
 
-abbrev invariant-loop : tie.invariant-loop
-invariant-loop table₀ f at i₀ n₀ table i n = (i + n ≤ 81983) × (length table ≡ length table₀)
+abbrev invariant-loop-n : tie.invariant-loop-n
+invariant-loop-n table₀ f at i₀ n₀ table i n = (i + n ≤ 81983) × (length table ≡ length table₀)
 
-abbrev decreases-loop : tie.decreases-loop
-decreases-loop table₀ f at i₀ n₀ table i n = n
+abbrev decreases-loop-n : tie.decreases-loop-n
+decreases-loop-n table₀ f at i₀ n₀ table i n = n
 
 pub put_spec : {M : Type 1} → statement M
 put_spec =
     tie.close
     (tie.spec
-    invariant-loop
-    decreases-loop
+    invariant-loop-n
+    decreases-loop-n
     (λ c. (omega arith, refl))
     (λ c. omega arith)
     (λ c. omega arith)

@@ -10,12 +10,12 @@ use Rattle.blocks.proofs.edges.Tie as tie
 returns : tie.Need-returns
 returns c =
     let g = c.before.before.before.before.before in
-    cuts_are (outside word_edges g.args.text.now) (outside figure_edges g.args.text.now) g.args.at _ _ _ _ c.before.before.before.word-bits.ensures c.before.before.figure-bits.ensures c.before.later.ensures c.later2.ensures
+    cuts_are (outside word_edges g.args.text.now) (outside figure_edges g.args.text.now) g.args.at _ _ _ _ c.before.before.before.word_bits-x.ensures c.before.before.figure_bits-y.ensures c.before.later-a.ensures c.later-b.ensures
 
-mul-result : tie.Need-overflow-mul-result
-mul-result c =
+overflow_mul-result : tie.Need-overflow_mul-result
+overflow_mul-result c =
     let g = c.before.before.before.before.before in
-    omega (arith, cuts-lt (outside word_edges g.args.text.now) (outside figure_edges g.args.text.now) g.args.at _ _ _ _ c.before.before.before.word-bits.ensures c.before.before.figure-bits.ensures c.before.later.ensures c.later2.ensures)
+    omega (arith, cuts-lt (outside word_edges g.args.text.now) (outside figure_edges g.args.text.now) g.args.at _ _ _ _ c.before.before.before.word_bits-x.ensures c.before.before.figure_bits-y.ensures c.before.later-a.ensures c.later-b.ensures)
 
 pub edges_spec : {M : Type 1} → statement M
 edges_spec =
@@ -25,5 +25,5 @@ edges_spec =
     (λ c κs. search rules)
     (λ c κs. search rules)
     (λ c κs. search rules)
-    mul-result
+    overflow_mul-result
     returns)

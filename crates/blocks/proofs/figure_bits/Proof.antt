@@ -16,20 +16,20 @@ returns c =
     let known = c.before.before.before.before.before.before.before.before.before in
     let a = known.before.args in
     let s = a.text.now in
-    let row : (i m : ℕ) → m ≡ others 8 figure_edges (packed 8 s i) → m ≡ span (lanes 8) (outside figure_edges s) i = row_of figure_edges (search rules) s (λ k. omega (arith, known.shared-slice-known.given k)) in
+    let row : (i m : ℕ) → m ≡ others 8 figure_edges (packed 8 s i) → m ≡ span (lanes 8) (outside figure_edges s) i = row_of figure_edges (search rules) s (λ k. omega (arith, known.shared_slice_known-1.given k)) in
     c.turned.ensures
     ∙ gathered (outside figure_edges s) a.at
-    (row _ _ c.before.before.before.before.before.before.before.before.no-figures.ensures)
-    (row _ _ c.before.before.before.before.before.before.before.no-figures2.ensures)
-    (row _ _ c.before.before.before.before.before.before.no-figures3.ensures)
-    (row _ _ c.before.before.before.before.before.no-figures4.ensures)
-    (row _ _ c.before.before.before.before.no-figures5.ensures)
-    (row _ _ c.before.before.before.no-figures6.ensures)
-    (row _ _ c.before.before.no-figures7.ensures)
-    (row _ _ c.before.no-figures8.ensures)
+    (row _ _ c.before.before.before.before.before.before.before.before.no_figures-t.ensures)
+    (row _ _ c.before.before.before.before.before.before.before.no_figures.ensures)
+    (row _ _ c.before.before.before.before.before.before.no_figures-2.ensures)
+    (row _ _ c.before.before.before.before.before.no_figures-3.ensures)
+    (row _ _ c.before.before.before.before.no_figures-4.ensures)
+    (row _ _ c.before.before.before.no_figures-5.ensures)
+    (row _ _ c.before.before.no_figures-6.ensures)
+    (row _ _ c.before.no_figures-7.ensures)
 
-pub figure-bits-spec : {M : Type 1} → statement M
-figure-bits-spec =
+pub figure_bits_spec : {M : Type 1} → statement M
+figure_bits_spec =
     tie.close
     (tie.spec
     (λ c κs. search rules)

@@ -9,5 +9,5 @@ use Rattle.blocks.proofs.no_figures.Tie as tie
 returns : tie.Need-returns
 returns c = c.others.ensures ∙ ap (others 8 figure_edges) c.before.eight.ensures
 
-pub no-figures-spec : {M : Type 1} → statement M
-no-figures-spec = tie.close (tie.spec (λ c κs. search rules) (λ c κs. search rules) returns)
+pub no_figures_spec : {M : Type 1} → statement M
+no_figures_spec = tie.close (tie.spec (λ c κs. search rules) (λ c κs. search rules) returns)

@@ -9,5 +9,5 @@ use Rattle.blocks.proofs.no_words.Tie as tie
 returns : tie.Need-returns
 returns c = c.others.ensures ∙ ap (others 8 word_edges) c.before.eight.ensures
 
-pub no-words-spec : {M : Type 1} → statement M
-no-words-spec = tie.close (tie.spec (λ c κs. search rules) (λ c κs. search rules) returns)
+pub no_words_spec : {M : Type 1} → statement M
+no_words_spec = tie.close (tie.spec (λ c κs. search rules) (λ c κs. search rules) returns)

@@ -8,14 +8,14 @@ use Rattle.blocks.specs.Turns.{swap, turn}
 use Rattle.blocks.proofs.turned.Statement.{statement}
 use Rattle.blocks.proofs.turned.Tie as tie
 
-mul-t : tie.Need-overflow-mul-t
-mul-t c = let t = c.args.t in omega (arith, and_le_r (bit_xor t (t / 2 ^ 7)) 0x00AA_00AA_00AA_00AA)
+overflow_mul-t : tie.Need-overflow_mul-t
+overflow_mul-t c = let t = c.args.t in omega (arith, and_le_r (bit_xor t (t / 2 ^ 7)) 0x00AA_00AA_00AA_00AA)
 
-mul-t-2 : tie.Need-overflow-mul-t-2
-mul-t-2 c = let t = swap 7 0x00AA_00AA_00AA_00AA c.args.t in omega (arith, and_le_r (bit_xor t (t / 2 ^ 14)) 0x0000_CCCC_0000_CCCC)
+overflow_mul-t-2 : tie.Need-overflow_mul-t-2
+overflow_mul-t-2 c = let t = swap 7 0x00AA_00AA_00AA_00AA c.args.t in omega (arith, and_le_r (bit_xor t (t / 2 ^ 14)) 0x0000_CCCC_0000_CCCC)
 
-mul-result : tie.Need-overflow-mul-result
-mul-result c = let t = swap 14 0x0000_CCCC_0000_CCCC (swap 7 0x00AA_00AA_00AA_00AA c.args.t) in omega (arith, and_le_r (bit_xor t (t / 2 ^ 28)) 0x0000_0000_F0F0_F0F0)
+overflow_mul-result : tie.Need-overflow_mul-result
+overflow_mul-result c = let t = swap 14 0x0000_CCCC_0000_CCCC (swap 7 0x00AA_00AA_00AA_00AA c.args.t) in omega (arith, and_le_r (bit_xor t (t / 2 ^ 28)) 0x0000_0000_F0F0_F0F0)
 
-pub turned-spec : {M : Type 1} → statement M
-turned-spec = tie.close (tie.spec mul-t mul-t-2 mul-result (λ c. refl))
+pub turned_spec : {M : Type 1} → statement M
+turned_spec = tie.close (tie.spec overflow_mul-t overflow_mul-t-2 overflow_mul-result (λ c. refl))

@@ -16,20 +16,20 @@ returns c =
     let known = c.before.before.before.before.before.before.before.before.before in
     let a = known.before.args in
     let s = a.text.now in
-    let row : (i m : ℕ) → m ≡ others 8 word_edges (packed 8 s i) → m ≡ span (lanes 8) (outside word_edges s) i = row_of word_edges (search rules) s (λ k. omega (arith, known.shared-slice-known.given k)) in
+    let row : (i m : ℕ) → m ≡ others 8 word_edges (packed 8 s i) → m ≡ span (lanes 8) (outside word_edges s) i = row_of word_edges (search rules) s (λ k. omega (arith, known.shared_slice_known-1.given k)) in
     c.turned.ensures
     ∙ gathered (outside word_edges s) a.at
-    (row _ _ c.before.before.before.before.before.before.before.before.no_words.ensures)
-    (row _ _ c.before.before.before.before.before.before.before.no-words2.ensures)
-    (row _ _ c.before.before.before.before.before.before.no-words3.ensures)
-    (row _ _ c.before.before.before.before.before.no-words4.ensures)
-    (row _ _ c.before.before.before.before.no-words5.ensures)
-    (row _ _ c.before.before.before.no-words6.ensures)
-    (row _ _ c.before.before.no-words7.ensures)
-    (row _ _ c.before.no-words8.ensures)
+    (row _ _ c.before.before.before.before.before.before.before.before.no_words-t.ensures)
+    (row _ _ c.before.before.before.before.before.before.before.no_words.ensures)
+    (row _ _ c.before.before.before.before.before.before.no_words-2.ensures)
+    (row _ _ c.before.before.before.before.before.no_words-3.ensures)
+    (row _ _ c.before.before.before.before.no_words-4.ensures)
+    (row _ _ c.before.before.before.no_words-5.ensures)
+    (row _ _ c.before.before.no_words-6.ensures)
+    (row _ _ c.before.no_words-7.ensures)
 
-pub word-bits-spec : {M : Type 1} → statement M
-word-bits-spec =
+pub word_bits_spec : {M : Type 1} → statement M
+word_bits_spec =
     tie.close
     (tie.spec
     (λ c κs. search rules)

@@ -9,5 +9,5 @@ returns : tie.Need-returns
 unfolding alphabetic_index numeric_index
 returns c = record { both = refl }
 
-pub class-table-spec : {M : Type 1} → statement M
-class-table-spec = tie.close (tie.spec returns)
+pub class_table_spec : {M : Type 1} → statement M
+class_table_spec = tie.close (tie.spec returns)

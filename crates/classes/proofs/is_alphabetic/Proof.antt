@@ -6,10 +6,10 @@ use borrow.Author.Rules.{rules}
 use Rattle.classes.proofs.is_alphabetic.Statement.{statement}
 use Rattle.classes.proofs.is_alphabetic.Tie as tie
 
-returns : tie.Need-returns
-returns c = rw c.is-letter.ensures (sym (ascii_alphabetic _ c.before.if1.true))
+returns-then-c-lt128 : tie.Need-returns-then-c-lt128
+returns-then-c-lt128 c = rw c.is_letter.ensures (sym (ascii_alphabetic _ c.before.if-c-lt128.true))
 
-pub is-alphabetic-spec : {M : Type 1} → statement M
-is-alphabetic-spec =
+pub is_alphabetic_spec : {M : Type 1} → statement M
+is_alphabetic_spec =
     tie.close
-    (tie.spec (λ c κs. search rules) returns (λ c κs. search rules) (λ c κs. search rules) (λ c. search rules))
+    (tie.spec (λ c κs. search rules) returns-then-c-lt128 (λ c κs. search rules) (λ c κs. search rules) (λ c. search rules))

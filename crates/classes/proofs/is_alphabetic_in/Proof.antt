@@ -8,15 +8,15 @@ use Rattle.classes.proofs.Parts.{alphabetic_part}
 use Rattle.classes.proofs.is_alphabetic_in.Statement.{statement}
 use Rattle.classes.proofs.is_alphabetic_in.Tie as tie
 
+returns-then-is_wide : tie.Need-returns-then-is_wide
+returns-then-is_wide c = sym (c.before.is_IsWide.ensures c.if-is_wide.true)
+
+in_ranges-requires : tie.Need-in_ranges-requires
+in_ranges-requires c κs = rw (alphabetic_part _ c.before.before.before.before.requires) alphabetic_form
+
 returns : tie.Need-returns
-returns c = sym (c.before.is_IsWide.ensures c.if1.true)
-
-in-ranges-requires : tie.Need-in-ranges-requires
-in-ranges-requires c κs = rw (alphabetic_part _ c.before.before.before.before.requires) alphabetic_form
-
-returns-2 : tie.Need-returns-2
 unfolding alphabetic
-returns-2 c = rw (alphabetic_part _ c.before.before.before.before.before.requires, alphabetic-sums) at c.in-ranges.ensures
+returns c = rw (alphabetic_part _ c.before.before.before.before.before.requires, alphabetic-sums) at c.in_ranges.ensures
 
-pub is-alphabetic-in-spec : {M : Type 1} → statement M
-is-alphabetic-in-spec = tie.close (tie.spec (λ c κs. search rules) returns (λ c. search rules) (λ c. search rules) (λ c. search rules) in-ranges-requires returns-2)
+pub is_alphabetic_in_spec : {M : Type 1} → statement M
+is_alphabetic_in_spec = tie.close (tie.spec (λ c κs. search rules) returns-then-is_wide (λ c. search rules) (λ c. search rules) (λ c. search rules) in_ranges-requires returns)

@@ -6,18 +6,18 @@ use borrow.Author.Rules.{rules}
 use Rattle.classes.proofs.is_alphanumeric.Statement.{statement}
 use Rattle.classes.proofs.is_alphanumeric.Tie as tie
 
-returns : tie.Need-returns
-returns c =
-    rw (c.before.is-letter.ensures, c.is_digit.ensures)
-    (sym (ascii_alphanumeric _ c.before.before.if1.true))
+returns-then-c-lt128 : tie.Need-returns-then-c-lt128
+returns-then-c-lt128 c =
+    rw (c.before.is_letter.ensures, c.is_digit.ensures)
+    (sym (ascii_alphanumeric _ c.before.before.if-c-lt128.true))
 
-pub is-alphanumeric-spec : {M : Type 1} → statement M
-is-alphanumeric-spec =
+pub is_alphanumeric_spec : {M : Type 1} → statement M
+is_alphanumeric_spec =
     tie.close
     (tie.spec
     (λ c κs. search rules)
     (λ c κs. search rules)
-    returns
+    returns-then-c-lt128
     (λ c κs. search rules)
     (λ c κs. search rules)
     (λ c. search rules))

@@ -9,24 +9,24 @@ use Rattle.classes.proofs.Parts.{numeric_part}
 use Rattle.classes.proofs.is_alphanumeric_in.Statement.{statement}
 use Rattle.classes.proofs.is_alphanumeric_in.Tie as tie
 
-is-alphabetic-in-requires : tie.Need-is-alphabetic-in-requires
-is-alphabetic-in-requires c κs = search rules
+is_alphabetic_in-requires : tie.Need-is_alphabetic_in-requires
+is_alphabetic_in-requires c κs = search rules
 
-in-ranges-requires : tie.Need-in-ranges-requires
-in-ranges-requires c κs = rw (numeric_part _ c.before.before.before.before.requires) numeric_form
+in_ranges-requires : tie.Need-in_ranges-requires
+in_ranges-requires c κs = rw (numeric_part _ c.before.before.before.before.requires) numeric_form
 
-returns : tie.Need-returns
+returns-then-is_alphabetic_in : tie.Need-returns-then-is_alphabetic_in
 unfolding alphanumeric
-returns c =
+returns-then-is_alphabetic_in c =
     let a : alphabetic c.before.before.before.args.c ≡ true = cc in
-    rw a c.if1.true
+    rw a c.if-is_alphabetic_in.true
 
-returns-2 : tie.Need-returns-2
+returns-else-is_alphabetic_in : tie.Need-returns-else-is_alphabetic_in
 unfolding alphanumeric numeric
-returns-2 c =
+returns-else-is_alphabetic_in c =
     let a : alphabetic c.before.before.before.before.before.args.c ≡ false = cc in
-    rw a (rw (numeric_part _ c.before.before.before.before.before.requires, numeric-sums) at c.in-ranges.ensures)
+    rw a (rw (numeric_part _ c.before.before.before.before.before.requires, numeric-sums) at c.in_ranges.ensures)
 
-pub is-alphanumeric-in-spec : {M : Type 1} → statement M
-is-alphanumeric-in-spec =
-    tie.close (tie.spec is-alphabetic-in-requires (λ c. search rules) (λ c. search rules) (λ c. search rules) in-ranges-requires returns returns-2)
+pub is_alphanumeric_in_spec : {M : Type 1} → statement M
+is_alphanumeric_in_spec =
+    tie.close (tie.spec is_alphabetic_in-requires (λ c. search rules) (λ c. search rules) (λ c. search rules) in_ranges-requires returns-then-is_alphabetic_in returns-else-is_alphabetic_in)

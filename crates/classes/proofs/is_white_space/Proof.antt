@@ -4,11 +4,11 @@ use Rattle.rules.proofs.Tables.{ascii_space, later_space}
 use Rattle.classes.proofs.is_white_space.Statement.{statement}
 use Rattle.classes.proofs.is_white_space.Tie as tie
 
+returns-then-c-lt128 : tie.Need-returns-then-c-lt128
+returns-then-c-lt128 c = sym (ascii_space c.before.args.c c.if-c-lt128.true)
+
 returns : tie.Need-returns
-returns c = sym (ascii_space c.before.args.c c.if1.true)
+returns c = sym (later_space c.before.args.c c.if-c-lt128.false)
 
-returns-2 : tie.Need-returns-2
-returns-2 c = sym (later_space c.before.args.c c.if1.false)
-
-pub is-white-space-spec : {M : Type 1} → statement M
-is-white-space-spec = tie.close (tie.spec returns returns-2)
+pub is_white_space_spec : {M : Type 1} → statement M
+is_white_space_spec = tie.close (tie.spec returns-then-c-lt128 returns)

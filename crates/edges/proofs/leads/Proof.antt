@@ -10,5 +10,5 @@ returns : tie.Need-returns
 unfolding lead_table leads_from lead minds after plain_kind first_byte_kind single
 returns c = refl
 
-pub leads-spec : {M : Type 1} → statement M
-leads-spec = tie.close (tie.spec returns)
+pub leads_spec : {M : Type 1} → statement M
+leads_spec = tie.close (tie.spec returns)

@@ -5,13 +5,13 @@ use Rattle.edges.proofs.Walks.{later}
 use Rattle.edges.proofs.left.Statement.{statement}
 use Rattle.edges.proofs.left.Tie as tie
 
-returns : tie.Need-returns-4
+returns : tie.Need-returns
 returns c = λ s start l b.
     let g = c.before.before.before.args in
-    later s start g.base g.bits g.end c.before.before.if1.false (omega (arith, c.before.if2.false)) (omega (arith, c.if3.false)) l b
+    later s start g.base g.bits g.end c.before.before.if-bits-eq0.false (omega (arith, c.before.if-end-base.false)) (omega (arith, c.if-n-ge63.false)) l b
 
-pub left-spec : {M : Type 1} → statement M
-left-spec =
+pub left_spec : {M : Type 1} → statement M
+left_spec =
     tie.close
     (tie.spec
     (λ c. search rules)

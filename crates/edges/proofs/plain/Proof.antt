@@ -14,27 +14,27 @@ use Rattle.edges.proofs.plain.Statement.{statement}
 use Rattle.edges.proofs.plain.Tie as tie
 
 -- the end lies in the text
-ends : (c : tie.Then1) → let g = c.before.before in (g.args.base + count_trailing_zeros 64 g.args.bits) + 8 ≤ length g.args.text.now
-ends c = let g = c.before.before in end_in g.args.text.now g.args.start g.args.base g.args.bits c.if1.true g.requires.3
+ends : (c : tie.Then-bits-ne0) → let g = c.before.before in (g.args.base + count_trailing_zeros 64 g.args.bits) + 8 ≤ length g.args.text.now
+ends c = let g = c.before.before in end_in g.args.text.now g.args.start g.args.base g.args.bits c.if-bits-ne0.true g.requires.3
 
-cast-end : tie.Need-overflow-cast-end
-cast-end c = let g = c.before.before in omega (arith, trailing_le 64 g.args.bits)
+overflow_cast-end : tie.Need-overflow_cast-end
+overflow_cast-end c = let g = c.before.before in omega (arith, trailing_le 64 g.args.bits)
 
-add-end : tie.Need-overflow-add-end
-add-end c = let g = c.before.before in omega (arith, ends c, g.requires.1)
+overflow_add-end : tie.Need-overflow_add-end
+overflow_add-end c = let g = c.before.before in omega (arith, ends c, g.requires.1)
 
-read-2 : tie.Need-shared-slice-read-lead-of-2
-read-2 c = omega (arith, ends c.before.before.before)
+bounds-text-end : tie.Need-bounds-text-end
+bounds-text-end c = omega (arith, ends c.before.before.before)
 
-is-told-requires : tie.Need-is-told-requires
-is-told-requires c κs =
+is_told-requires : tie.Need-is_told-requires
+is_told-requires c κs =
     let k = c.before in
     let g = k.before.before.before.before.before in
     let end = g.args.base + count_trailing_zeros 64 g.args.bits in
-    omega (arith, c.lead-of2.ensures, lead_small (get_or g.args.text.now end 0) (omega (arith, k.shared-slice-known3.given end)))
+    omega (arith, c.lead_of.ensures, lead_small (get_or g.args.text.now end 0) (omega (arith, k.shared_slice_known-then-bits-ne0-2-1.given end)))
 
-returns : tie.Need-returns
-returns c = λ n.
+returns-then-is_told : tie.Need-returns-then-is_told
+returns-then-is_told c = λ n.
     let o = c.before.before in
     let k = o.before in
     let v = k.before in
@@ -42,24 +42,24 @@ returns c = λ n.
     let g = l.before.before in
     let s = g.args.text.now in
     let a = g.args in
-    let t = sym (ap₂ told v.lead-of.ensures o.lead-of2.ensures) ∙ sym c.before.is-told.ensures ∙ c.if2.true in (
-      ap {B = Lexed} (λ (n : ℕ). record { kind = n % 64; end = a.base + count_trailing_zeros 64 a.bits }) v.lead-of.ensures
-          ∙ token s a.start a.base a.bits l.if1.true g.requires.3 (λ n. omega (arith, k.shared-slice-known3.given n)) g.requires.2 t,
-      next s a.start a.base a.bits l.if1.true g.requires.3,
+    let t = sym (ap₂ told v.lead_of-v.ensures o.lead_of.ensures) ∙ sym c.before.is_told.ensures ∙ c.if-is_told.true in (
+      ap {B = Lexed} (λ (n : ℕ). record { kind = n % 64; end = a.base + count_trailing_zeros 64 a.bits }) v.lead_of-v.ensures
+          ∙ token s a.start a.base a.bits l.if-bits-ne0.true g.requires.3 (λ n. omega (arith, k.shared_slice_known-then-bits-ne0-2-1.given n)) g.requires.2 t,
+      next s a.start a.base a.bits l.if-bits-ne0.true g.requires.3,
     )
 
-pub plain-spec : {M : Type 1} → statement M
-plain-spec =
+pub plain_spec : {M : Type 1} → statement M
+plain_spec =
     tie.close
     (tie.spec
-    cast-end
-    add-end
+    overflow_cast-end
+    overflow_add-end
     (λ c. search rules)
     (λ c κs. search rules)
-    read-2
+    bounds-text-end
     (λ c κs. search rules)
-    is-told-requires
+    is_told-requires
     (λ c. search rules)
-    returns
+    returns-then-is_told
     (λ c. λ n. absurd (n refl))
     (λ c. λ n. absurd (n refl)))

@@ -16,19 +16,19 @@ use Rattle.lexer.proofs.Ends.{opened_by, lexes}
 use Rattle.edges.proofs.read_enclosed.Statement.{statement}
 use Rattle.edges.proofs.read_enclosed.Tie as tie
 
-returns-2 : tie.Need-returns-2
-returns-2 c =
+returns : tie.Need-returns
+returns c =
     let g = c.before.before.before.before.before.before in
     let s = g.args.text.now in
     let i = g.args.start in
-    let q = g.requires.2 c.before.before.if1.false in
+    let q = g.requires.2 c.before.before.if-text-start-eq36.false in
     let e =
-    c.before.read-string.ensures ∙ opened_by i 1 (quoted_body quote false (chars (drop (i + 1) s))) StringToken ErrorSingleQuoteIsNotClosed
+    c.before.read_string-string.ensures ∙ opened_by i 1 (quoted_body quote false (chars (drop (i + 1) s))) StringToken ErrorSingleQuoteIsNotClosed
     ∙ ap (ends_at i) (sym (by_quote (after_dot_at s i) s i g.requires.1 (omega (arith, q)) q)) in
     lexes s i _ g.requires.0 g.requires.1 (c.join.ensures ∙ ap joined e)
 
-pub read-enclosed-spec : {M : Type 1} → statement M
-read-enclosed-spec =
+pub read_enclosed_spec : {M : Type 1} → statement M
+read_enclosed_spec =
     tie.close
     (tie.spec
     (λ c. search rules)
@@ -37,4 +37,4 @@ read-enclosed-spec =
     (λ c. search rules)
     (λ c κs. search rules)
     (λ c κs. search rules)
-    returns-2)
+    returns)

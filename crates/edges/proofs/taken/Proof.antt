@@ -12,8 +12,8 @@ parts k n = record { kind = k; end = n }
 
 returns : tie.Need-returns
 returns c = λ s start m h e b.
-    let l = ap₂ parts (ap (λ (n : ℕ). n % 64) c.before.kind-of.ensures) c.before.before.end_of.ensures ∙ e in
+    let l = ap₂ parts (ap (λ (n : ℕ). n % 64) c.before.kind_of.ensures) c.before.before.end_of-end.ensures ∙ e in
     (l, c.left.ensures s start (next_lies s start _ h l).0 b)
 
-pub taken-spec : {M : Type 1} → statement M
-taken-spec = tie.close (tie.spec (λ c κs. search rules) (λ c κs. search rules) (λ c κs. search rules) returns)
+pub taken_spec : {M : Type 1} → statement M
+taken_spec = tie.close (tie.spec (λ c κs. search rules) (λ c κs. search rules) (λ c κs. search rules) returns)

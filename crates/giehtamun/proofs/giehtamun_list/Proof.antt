@@ -17,17 +17,17 @@ module _ (c : tie.After-tokenize) where
   text = c.before.before.before.before.before.before.args.text.now
 
   abbrev list : List ℕ
-  list = c.before.before.before.before.before.before.args.list.now
+  list = c.before.before.before.before.before.before.args.list-1.now
 
   listed : written c.tokenize.result c.tokenize.new.1.1.0 ≡ listing mode text list
-  listed = c.tokenize.ensures ∙ ap (λ (m : ℕ). listing m text list) c.before.before.set-mode.ensures.0
+  listed = c.tokenize.ensures ∙ ap (λ (m : ℕ). listing m text list) c.before.before.set_mode.ensures.0
 
-pack-answer-requires : tie.Need-pack-answer-requires
-pack-answer-requires c κs = let t = c.before.before in fits t.tokenize.result _ _ (listed t) (fits_listing (mode t) (text t) (list t))
+pack_answer-requires : tie.Need-pack_answer-requires
+pack_answer-requires c κs = let t = c.before.before in fits t.tokenize.result _ _ (listed t) (fits_listing (mode t) (text t) (list t))
 
 returns : tie.Need-returns
-returns c = is-packed c.before.before.before.tokenize.result _ _ (listed c.before.before.before) _ c.pack-answer.ensures
+returns c = is-packed c.before.before.before.tokenize.result _ _ (listed c.before.before.before) _ c.pack_answer.ensures
 
-pub giehtamun-list-spec : {M : Type 1} → statement M
-giehtamun-list-spec =
-    tie.close (tie.spec (λ c κs. search rules) (λ c κs. search rules) (λ c κs. search rules) pack-answer-requires (λ c. search rules) returns)
+pub giehtamun_list_spec : {M : Type 1} → statement M
+giehtamun_list_spec =
+    tie.close (tie.spec (λ c κs. search rules) (λ c κs. search rules) (λ c κs. search rules) pack_answer-requires (λ c. search rules) returns)

@@ -9,7 +9,7 @@ use Rattle.giehtamun.proofs.Packed.{fits, is-packed}
 use Rattle.giehtamun.proofs.giehtamun_list_up_to.Statement.{statement}
 use Rattle.giehtamun.proofs.giehtamun_list_up_to.Tie as tie
 
-module _ (c : tie.After-tokenize-up-to-position) where
+module _ (c : tie.After-tokenize_up_to_position) where
   abbrev mode : ℕ
   mode = c.before.before.before.before.before.before.before.args.mode
 
@@ -20,24 +20,24 @@ module _ (c : tie.After-tokenize-up-to-position) where
   text = c.before.before.before.before.before.before.before.args.text.now
 
   abbrev list : List ℕ
-  list = c.before.before.before.before.before.before.before.args.list.now
+  list = c.before.before.before.before.before.before.before.args.list-1.now
 
-  listed : written c.tokenize-up-to-position.result c.tokenize-up-to-position.new.1.1.0
+  listed : written c.tokenize_up_to_position.result c.tokenize_up_to_position.new.1.1.0
       ≡ listing_up_to mode position text list
   listed =
-      let p = c.before.before.set-position.ensures in
-      c.tokenize-up-to-position.ensures
-      ∙ ap₂ {C = Written} (λ (m n : ℕ). listing_up_to m n text list) (p.0 ∙ c.before.before.before.set-mode.ensures.0) p.1
+      let p = c.before.before.set_position.ensures in
+      c.tokenize_up_to_position.ensures
+      ∙ ap₂ {C = Written} (λ (m n : ℕ). listing_up_to m n text list) (p.0 ∙ c.before.before.before.set_mode.ensures.0) p.1
 
-pack-answer-requires : tie.Need-pack-answer-requires
-pack-answer-requires c κs =
+pack_answer-requires : tie.Need-pack_answer-requires
+pack_answer-requires c κs =
     let t = c.before.before in
-    fits t.tokenize-up-to-position.result _ _ (listed t) (fits_listing_up_to (mode t) (position t) (text t) (list t))
+    fits t.tokenize_up_to_position.result _ _ (listed t) (fits_listing_up_to (mode t) (position t) (text t) (list t))
 
 returns : tie.Need-returns
-returns c = is-packed c.before.before.before.tokenize-up-to-position.result _ _ (listed c.before.before.before) _ c.pack-answer.ensures
+returns c = is-packed c.before.before.before.tokenize_up_to_position.result _ _ (listed c.before.before.before) _ c.pack_answer.ensures
 
-pub giehtamun-list-up-to-spec : {M : Type 1} → statement M
-giehtamun-list-up-to-spec =
+pub giehtamun_list_up_to_spec : {M : Type 1} → statement M
+giehtamun_list_up_to_spec =
     tie.close
-    (tie.spec (λ c κs. search rules) (λ c κs. search rules) (λ c κs. search rules) (λ c κs. search rules) pack-answer-requires (λ c. search rules) returns)
+    (tie.spec (λ c κs. search rules) (λ c κs. search rules) (λ c κs. search rules) (λ c κs. search rules) pack_answer-requires (λ c. search rules) returns)

@@ -7,17 +7,17 @@ use Rattle.giehtamun.specs.Packed.{packed_halves}
 use Rattle.giehtamun.proofs.giehtamun_place.Statement.{statement}
 use Rattle.giehtamun.proofs.giehtamun_place.Tie as tie
 
-pack-halves-requires : tie.Need-pack-halves-requires
-pack-halves-requires c κs =
+pack_halves-requires : tie.Need-pack_halves-requires
+pack_halves-requires c κs =
     let a = c.before.before.args in
     let s = fits_place a.text.now a.offset in
-    let n = ap (λ (p : Placed). p.number) c.place.ensures in
-    let l = ap (λ (p : Placed). p.line) c.place.ensures in
-    let k = ap (λ (p : Placed). p.column) c.place.ensures in
+    let n = ap (λ (p : Placed). p.number) c.place-p.ensures in
+    let l = ap (λ (p : Placed). p.line) c.place-p.ensures in
+    let k = ap (λ (p : Placed). p.column) c.place-p.ensures in
     (omega (arith, s.0), omega (arith, s.1), omega (arith, s.2))
 
 returns : tie.Need-returns
-returns c = c.pack-halves.ensures ∙ ap (λ (p : Placed). packed_halves p.number p.line p.column) c.before.place.ensures
+returns c = c.pack_halves.ensures ∙ ap (λ (p : Placed). packed_halves p.number p.line p.column) c.before.place-p.ensures
 
-pub giehtamun-place-spec : {M : Type 1} → statement M
-giehtamun-place-spec = tie.close (tie.spec (λ c κs. search rules) pack-halves-requires returns)
+pub giehtamun_place_spec : {M : Type 1} → statement M
+giehtamun_place_spec = tie.close (tie.spec (λ c κs. search rules) pack_halves-requires returns)

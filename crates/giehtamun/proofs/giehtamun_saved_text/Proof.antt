@@ -11,13 +11,13 @@ use Rattle.giehtamun.proofs.giehtamun_saved_text.Tie as tie
 pack-requires : tie.Need-pack-requires
 pack-requires c κs =
     let f = fits_opening c.before.before.args.file.now in
-    let n = ap (λ (v : Verdict). v.number) c.saved-text-answer.ensures in
-    let v = ap (λ (v : Verdict). v.value) c.saved-text-answer.ensures in
+    let n = ap (λ (v : Verdict). v.number) c.saved_text_answer-text.ensures in
+    let v = ap (λ (v : Verdict). v.value) c.saved_text_answer-text.ensures in
     (omega (arith, f.0), omega arith, omega (arith, f.1))
 
 returns : tie.Need-returns
 unfolding saved_text
-returns c = c.pack.ensures ∙ ap (λ (v : Verdict). packed v.number 0 v.value) c.before.saved-text-answer.ensures
+returns c = c.pack.ensures ∙ ap (λ (v : Verdict). packed v.number 0 v.value) c.before.saved_text_answer-text.ensures
 
-pub giehtamun-saved-text-spec : {M : Type 1} → statement M
-giehtamun-saved-text-spec = tie.close (tie.spec (λ c κs. search rules) pack-requires returns)
+pub giehtamun_saved_text_spec : {M : Type 1} → statement M
+giehtamun_saved_text_spec = tie.close (tie.spec (λ c κs. search rules) pack-requires returns)

@@ -5,16 +5,16 @@ use Rattle.giehtamun.proofs.Packed.{part_fits, part_is-packed}
 use Rattle.giehtamun.proofs.giehtamun_token_text.Statement.{statement}
 use Rattle.giehtamun.proofs.giehtamun_token_text.Tie as tie
 
-pack-answer-requires : tie.Need-pack-answer-requires
-pack-answer-requires c κs =
+pack_answer-requires : tie.Need-pack_answer-requires
+pack_answer-requires c κs =
     let a = c.before.before.args in
-    part_fits c.token-text-answer.result (token_text a.text.now a.start a.end) c.token-text-answer.ensures (fits_token-text a.text.now a.start a.end)
+    part_fits c.token_text_answer.result (token_text a.text.now a.start a.end) c.token_text_answer.ensures (fits_token-text a.text.now a.start a.end)
 
 returns : tie.Need-returns
 returns c =
     let t = c.before in
     let a = t.before.before.args in
-    part_is-packed t.token-text-answer.result (token_text a.text.now a.start a.end) t.token-text-answer.ensures _ c.pack-answer.ensures
+    part_is-packed t.token_text_answer.result (token_text a.text.now a.start a.end) t.token_text_answer.ensures _ c.pack_answer.ensures
 
-pub giehtamun-token-text-spec : {M : Type 1} → statement M
-giehtamun-token-text-spec = tie.close (tie.spec (λ c κs. search rules) pack-answer-requires returns)
+pub giehtamun_token_text_spec : {M : Type 1} → statement M
+giehtamun_token_text_spec = tie.close (tie.spec (λ c κs. search rules) pack_answer-requires returns)

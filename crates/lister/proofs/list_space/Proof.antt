@@ -13,5 +13,5 @@ filled n z = sym (length-replicate n z)
 returns : tie.Need-returns
 returns c = filled (65536 * token_bytes) 0
 
-pub list-space-spec : {M : Type 1} → statement M
-list-space-spec = tie.close (tie.spec returns)
+pub list_space_spec : {M : Type 1} → statement M
+list_space_spec = tie.close (tie.spec returns)

@@ -6,10 +6,10 @@ use Rattle.lister.specs.Input.{count_of}
 use Rattle.lister.proofs.main.Statement.{statement}
 use Rattle.lister.proofs.main.Tie as tie
 
-slice-aggregate-print-list : tie.Need-slice-aggregate-print-list
-slice-aggregate-print-list c =
-    let i = c.before.before.before.input.given in
-    let t = c.before.before.before.before.before.before.read-text in
+slice_bounds-print_list-end : tie.Need-slice_bounds-print_list-end
+slice_bounds-print_list-end c =
+    let i = c.before.before.before.input-1.given in
+    let t = c.before.before.before.before.before.before.read_text-input in
     sym (length-take-le i.0.0 t.new.0 (rw (← ap count_of i.1) t.ensures))
 
 pub main_spec : {M : Type 1} → statement M
@@ -27,6 +27,6 @@ main_spec =
     (λ c κs. search rules)
     (λ c. search rules)
     (λ c. search rules)
-    slice-aggregate-print-list
+    slice_bounds-print_list-end
     (λ c κs. search rules)
     (λ c. search rules))

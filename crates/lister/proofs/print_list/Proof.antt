@@ -5,14 +5,14 @@ use Rattle.lister.proofs.Fits.{done_fits}
 use Rattle.lister.proofs.print_list.Statement.{statement}
 use Rattle.lister.proofs.print_list.Tie as tie
 
-print-tokens-requires : tie.Need-print-tokens-requires
-print-tokens-requires c κs =
+print_tokens-requires : tie.Need-print_tokens-requires
+print_tokens-requires c κs =
     let v = c.before in
     let t = v.before.before.before.before in
-    omega (arith, done_fits _ _ _ _ t.tokenize.result t.tokenize.ensures (omega arith), v.value.ensures, t.tokenize.auto.1.1.0)
+    omega (arith, done_fits _ _ _ _ t.tokenize-answer.result t.tokenize-answer.ensures (omega arith), v.value-tokens.ensures, t.tokenize-answer.auto.1.1.0)
 
-pub print-list-spec : {M : Type 1} → statement M
-print-list-spec =
+pub print_list_spec : {M : Type 1} → statement M
+print_list_spec =
     tie.close
     (tie.spec
     (λ c κs. search rules)
@@ -24,6 +24,6 @@ print-list-spec =
     (λ c. search rules)
     (λ c κs. search rules)
     (λ c. search rules)
-    print-tokens-requires
+    print_tokens-requires
     (λ c κs. search rules)
     (λ c. search rules))

@@ -13,32 +13,32 @@ invariant-loop list tokens at₀ counter₀ at counter = (at ≡ counter * token
 abbrev decreases-loop : tie.decreases-loop
 decreases-loop list tokens at₀ counter₀ at counter = tokens - counter
 
-loop-holds : tie.Need-loop-init invariant-loop decreases-loop
-loop-holds c = (omega arith, omega arith)
+loop-init : tie.Need-loop-init invariant-loop decreases-loop
+loop-init c = (omega arith, omega arith)
 
-get-token-requires : tie.Need-get-token-requires invariant-loop decreases-loop
-get-token-requires c κs = omega arith
+get_token-requires : tie.Need-get_token-requires invariant-loop decreases-loop
+get_token-requires c κs = omega arith
 
-print-token-requires : tie.Need-print-token-requires invariant-loop decreases-loop
-print-token-requires c κs = search rules
+print_token-requires : tie.Need-print_token-requires invariant-loop decreases-loop
+print_token-requires c κs = search rules
 
-token-bytes-requires : tie.Need-token-bytes-requires invariant-loop decreases-loop
-token-bytes-requires c κs = search rules
+token_bytes-at-requires : tie.Need-token_bytes-at-requires invariant-loop decreases-loop
+token_bytes-at-requires c κs = search rules
 
-add_at : tie.Need-overflow-add-at invariant-loop decreases-loop
-add_at c = omega arith
+overflow_add-at : tie.Need-overflow_add-at invariant-loop decreases-loop
+overflow_add-at c = omega arith
 
-add-counter : tie.Need-overflow-add-counter invariant-loop decreases-loop
-add-counter c = omega arith
+overflow_step : tie.Need-overflow_step invariant-loop decreases-loop
+overflow_step c = omega arith
 
-loop-less : tie.Need-loop-smaller invariant-loop decreases-loop
-loop-less c = omega arith
+loop-smaller : tie.Need-loop-smaller invariant-loop decreases-loop
+loop-smaller c = omega arith
 
-loop-again : tie.Need-loop-preserved invariant-loop decreases-loop
-loop-again c = (omega arith, omega arith)
+loop-preserved : tie.Need-loop-preserved invariant-loop decreases-loop
+loop-preserved c = (omega arith, omega arith)
 
 returns : tie.Need-returns invariant-loop decreases-loop
 returns c = search rules
 
-pub print-tokens-spec : {M : Type 1} → statement M
-print-tokens-spec = tie.close (tie.spec invariant-loop decreases-loop loop-holds get-token-requires print-token-requires token-bytes-requires add_at add-counter loop-less loop-again returns)
+pub print_tokens_spec : {M : Type 1} → statement M
+print_tokens_spec = tie.close (tie.spec invariant-loop decreases-loop loop-init get_token-requires print_token-requires token_bytes-at-requires overflow_add-at overflow_step loop-smaller loop-preserved returns)

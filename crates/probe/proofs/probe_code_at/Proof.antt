@@ -6,7 +6,7 @@ use Rattle.probe.proofs.probe_code_at.Statement.{statement}
 use Rattle.probe.proofs.probe_code_at.Tie as tie
 
 returns : tie.Need-returns
-returns c = c.unit-code.ensures ∙ ap unit_code c.before.unit-at.ensures
+returns c = c.unit_code.ensures ∙ ap unit_code c.before.unit_at.ensures
 
-pub probe-code-at-spec : {M : Type 1} → statement M
-probe-code-at-spec = tie.close (tie.spec (λ c κs. search rules) (λ c κs. search rules) returns)
+pub probe_code_at_spec : {M : Type 1} → statement M
+probe_code_at_spec = tie.close (tie.spec (λ c κs. search rules) (λ c κs. search rules) returns)

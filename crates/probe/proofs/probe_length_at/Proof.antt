@@ -6,7 +6,7 @@ use Rattle.probe.proofs.probe_length_at.Statement.{statement}
 use Rattle.probe.proofs.probe_length_at.Tie as tie
 
 returns : tie.Need-returns
-returns c = c.unit-len.ensures ∙ ap unit_len c.before.unit-at.ensures
+returns c = c.unit_len.ensures ∙ ap unit_len c.before.unit_at.ensures
 
-pub probe-length-at-spec : {M : Type 1} → statement M
-probe-length-at-spec = tie.close (tie.spec (λ c κs. search rules) (λ c κs. search rules) returns)
+pub probe_length_at_spec : {M : Type 1} → statement M
+probe_length_at_spec = tie.close (tie.spec (λ c κs. search rules) (λ c κs. search rules) returns)

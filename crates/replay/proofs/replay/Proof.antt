@@ -5,18 +5,18 @@ use borrow.Author.Rules.{rules}
 use Rattle.replay.proofs.replay.Statement.{statement}
 use Rattle.replay.proofs.replay.Tie as tie
 
-abbrev invariant-loop : tie.invariant-loop
-invariant-loop file at₀ texts₀ tokens₀ differences₀ at texts tokens differences = (at ≤ length file) × (texts ≤ at) × (tokens ≤ at) × (differences ≤ at)
+abbrev invariant-loop-at : tie.invariant-loop-at
+invariant-loop-at file at₀ texts₀ tokens₀ differences₀ at texts tokens differences = (at ≤ length file) × (texts ≤ at) × (tokens ≤ at) × (differences ≤ at)
 
-abbrev decreases-loop : tie.decreases-loop
-decreases-loop file at₀ texts₀ tokens₀ differences₀ at texts tokens differences = length file - at
+abbrev decreases-loop-at : tie.decreases-loop-at
+decreases-loop-at file at₀ texts₀ tokens₀ differences₀ at texts tokens differences = length file - at
 
-pub replay-spec : {M : Type 1} → statement M
-replay-spec =
+pub replay_spec : {M : Type 1} → statement M
+replay_spec =
     tie.close
     (tie.spec
-    invariant-loop
-    decreases-loop
+    invariant-loop-at
+    decreases-loop-at
     (λ c. search rules)
     (λ c. search rules)
     (λ c. search rules)

@@ -10,41 +10,41 @@ use Rattle.runs.proofs.Copies.{joined, joined_length, joined_more}
 use Rattle.runs.proofs.copy_front.Statement.{statement}
 use Rattle.runs.proofs.copy_front.Tie as tie
 
-abbrev invariant-loop : tie.invariant-loop
-invariant-loop text copy₀ i₀ copy i = (i ≤ length text) × (copy ≡ joined i text copy₀)
+abbrev invariant-loop-i : tie.invariant-loop-i
+invariant-loop-i text copy₀ i₀ copy i = (i ≤ length text) × (copy ≡ joined i text copy₀)
 
-abbrev decreases-loop : tie.decreases-loop
-decreases-loop text copy₀ i₀ copy i = length text - i
+abbrev decreases-loop-i : tie.decreases-loop-i
+decreases-loop-i text copy₀ i₀ copy i = length text - i
 
-same : (l : tie.At-loop invariant-loop decreases-loop) → length l.loop.copy ≡ length l.before.args.copy.now
-same l = let a = l.before.args in ap length l.loop.invariant.1 ∙ joined_length l.loop.i a.text.now a.copy.now l.loop.invariant.0 (omega arith)
+same : (l : tie.At-loop-i invariant-loop-i decreases-loop-i) → length l.loop-i.copy ≡ length l.before.args.copy.now
+same l = let a = l.before.args in ap length l.loop-i.invariant.1 ∙ joined_length l.loop-i.i a.text.now a.copy.now l.loop-i.invariant.0 (omega arith)
 
-loop-again : tie.Need-loop-preserved invariant-loop decreases-loop
-loop-again c =
+loop-i-preserved : tie.Need-loop-i-preserved invariant-loop-i decreases-loop-i
+loop-i-preserved c =
     let l = c.before.before in
     let a = l.before.args in
-    (omega arith, ap (λ (x : List ℕ). set x l.loop.i (get_or a.text.now l.loop.i 0)) l.loop.invariant.1 ∙ joined_more l.loop.i a.text.now a.copy.now (omega arith) (omega arith))
+    (omega arith, ap (λ (x : List ℕ). set x l.loop-i.i (get_or a.text.now l.loop-i.i 0)) l.loop-i.invariant.1 ∙ joined_more l.loop-i.i a.text.now a.copy.now (omega arith) (omega arith))
 
-returns : tie.Need-returns invariant-loop decreases-loop
+returns : tie.Need-returns invariant-loop-i decreases-loop-i
 returns c =
     let l = c.before in
     let a = l.before.args in
-    let e : l.loop.i ≡ length a.text.now = omega arith in
-    l.loop.invariant.1
+    let e : l.loop-i.i ≡ length a.text.now = omega arith in
+    l.loop-i.invariant.1
     ∙ ap (λ (n : ℕ). joined n a.text.now a.copy.now) e
     ∙ ap (λ (x : List ℕ). x ++ drop (length a.text.now) a.copy.now) (take_all (length a.text.now) a.text.now (omega arith))
 
-pub copy-front-spec : {M : Type 1} → statement M
-copy-front-spec =
+pub copy_front_spec : {M : Type 1} → statement M
+copy_front_spec =
     tie.close
     (tie.spec
-    invariant-loop
-    decreases-loop
+    invariant-loop-i
+    decreases-loop-i
     (λ c. (omega arith, refl))
     (λ c. omega arith)
     (λ c. omega (arith, same c.before.before))
     (λ c. omega arith)
     (λ c. omega arith)
-    loop-again
+    loop-i-preserved
     (λ c. same c.before)
     returns)

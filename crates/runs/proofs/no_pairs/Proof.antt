@@ -15,11 +15,11 @@ unfolding ones
 returns c = λ e k h.
     let g = c.before.before.before.before.before in
     let s = g.args.text.now in
-    let x = sym (ap₂ bit_or (c.before.before.others.ensures ∙ ap (others 8 g.args.a) c.before.before.before.eight.ensures) (c.others2.ensures ∙ ap (others 8 g.args.b) c.before.eight2.ensures)) ∙ eqb-true _ _ e in
-    unpaired s (λ n. omega (arith, c.before.before.before.before.shared-slice-known.given n)) g.args.a g.args.b g.requires.1.1 g.requires.2.1 8 g.args.i x k h
+    let x = sym (ap₂ bit_or (c.before.before.others.ensures ∙ ap (others 8 g.args.a) c.before.before.before.eight.ensures) (c.others-2.ensures ∙ ap (others 8 g.args.b) c.before.eight-2.ensures)) ∙ eqb-true _ _ e in
+    unpaired s (λ n. omega (arith, c.before.before.before.before.shared_slice_known-1.given n)) g.args.a g.args.b g.requires.1.1 g.requires.2.1 8 g.args.i x k h
 
-pub no-pairs-spec : {M : Type 1} → statement M
-no-pairs-spec =
+pub no_pairs_spec : {M : Type 1} → statement M
+no_pairs_spec =
     tie.close
     (tie.spec
     (λ c κs. search rules)

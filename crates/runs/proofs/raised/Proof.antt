@@ -6,13 +6,13 @@ use Rattle.runs.specs.Lanes.{ones}
 use Rattle.runs.proofs.raised.Statement.{statement}
 use Rattle.runs.proofs.raised.Tie as tie
 
-add-result : tie.Need-overflow-add-result
+overflow_add-result : tie.Need-overflow_add-result
 unfolding ones
-add-result c = omega (arith, c.requires)
+overflow_add-result c = omega (arith, c.requires)
 
 returns : tie.Need-returns
 unfolding ones
 returns c = refl
 
-pub raised-spec : {M : Type 1} → statement M
-raised-spec = tie.close (tie.spec (λ c. search rules) (λ c. search rules) (λ c. search rules) add-result returns)
+pub raised_spec : {M : Type 1} → statement M
+raised_spec = tie.close (tie.spec (λ c. search rules) (λ c. search rules) (λ c. search rules) overflow_add-result returns)

@@ -12,11 +12,11 @@ use Rattle.runs.specs.Classes.{inside, Unpaired}
 use Rattle.runs.proofs.skip_pairs.Statement.{statement}
 use Rattle.runs.proofs.skip_pairs.Tie as tie
 
-abbrev invariant-loop : tie.invariant-loop
-invariant-loop text at a b i₀ i = Unpaired (inside a) (inside b) text at i
+abbrev invariant-loop-i : tie.invariant-loop-i
+invariant-loop-i text at a b i₀ i = Unpaired (inside a) (inside b) text at i
 
-abbrev decreases-loop : tie.decreases-loop
-decreases-loop text at a b i₀ i = length text - i
+abbrev decreases-loop-i : tie.decreases-loop-i
+decreases-loop-i text at a b i₀ i = length text - i
 
 -- eight bytes more
 more : (p q : ℕ → Bool) (s : List ℕ) (at i : ℕ) → Unpaired p q s at i → i + 9 ≤ length s → ((k : ℕ) → k < 8 → (p (get_or s (i + k) 0) && q (get_or s (i + 1 + k) 0)) ≡ false) → Unpaired p q s at (i + 8)
@@ -29,17 +29,17 @@ more p q s at i u h f = record { from = let l = u.from in omega arith; upto = om
         let y : i + 1 + (k - i) ≡ k + 1 = omega arith in
         subst (λ (m : ℕ). (p (get_or s k 0) && q (get_or s m 0)) ≡ false) y (subst (λ (m : ℕ). (p (get_or s m 0) && q (get_or s (i + 1 + (k - i)) 0)) ≡ false) x (f (k - i) (omega arith)))
 
-pub skip-pairs-spec : {M : Type 1} → statement M
-skip-pairs-spec =
+pub skip_pairs_spec : {M : Type 1} → statement M
+skip_pairs_spec =
     tie.close
     (tie.spec
-    invariant-loop
-    decreases-loop
+    invariant-loop-i
+    decreases-loop-i
     (λ c. record { from = omega arith; upto = c.before.requires.0; none = λ k a b. absurd (omega arith) })
-    (λ c. c.loop.invariant.upto)
-    (λ c κs. let g = c.before.before.before in (omega (arith, c.before.loop.invariant.upto), g.requires.1, g.requires.2))
-    (λ c. c.before.before.before.loop.invariant)
+    (λ c. c.loop-i.invariant.upto)
+    (λ c κs. let g = c.before.before.before in (omega (arith, c.before.loop-i.invariant.upto), g.requires.1, g.requires.2))
+    (λ c. c.before.before.before.loop-i.invariant)
     (λ c. omega arith)
     (λ c. omega arith)
-    (λ c. more _ _ _ _ _ c.before.before.before.loop.invariant (omega (arith, c.before.before.before.loop.invariant.upto)) (c.before.no_pairs.ensures (not-false _ c.if1.false)))
-    (λ c. c.before.loop.invariant))
+    (λ c. more _ _ _ _ _ c.before.before.before.loop-i.invariant (omega (arith, c.before.before.before.loop-i.invariant.upto)) (c.before.no_pairs.ensures (not-false _ c.if-not-no_pairs.false)))
+    (λ c. c.before.loop-i.invariant))

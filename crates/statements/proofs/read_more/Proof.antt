@@ -3,12 +3,12 @@ use borrow.Author.Rules.{rules}
 use Rattle.statements.proofs.read_more.Statement.{statement}
 use Rattle.statements.proofs.read_more.Tie as tie
 
-pub read-more-spec : {M : Type 1} → statement M
-read-more-spec =
+pub read_more_spec : {M : Type 1} → statement M
+read_more_spec =
     tie.close
     (tie.spec
     (λ c. search rules)
     (λ c κs. let p = c.before.before.requires in (p.0, p.1.inside))
     (λ c. search rules)
-    (λ c κs. let p = c.before.before.before.before.before.requires in (p.0, p.1, c.before.before.look-ahead.ensures))
-    (λ c. c.read_Some.ensures))
+    (λ c κs. let p = c.before.before.before.before.before.requires in (p.0, p.1, c.before.before.look_ahead-until.ensures))
+    (λ c. c.read_some.ensures))

@@ -17,122 +17,122 @@ use Rattle.statements.proofs.Walks.{read-delimiter, read_other, still_open}
 use Rattle.statements.proofs.read_some.Statement.{statement}
 use Rattle.statements.proofs.read_some.Tie as tie
 
-abbrev invariant-loop : tie.invariant-loop
-invariant-loop text until lone leads stop₀ wasted₀ shy₀ base₀ bits₀ tokens₀ cursor₀ stop wasted shy base bits tokens cursor =
+abbrev invariant-loop-cursor : tie.invariant-loop-cursor
+invariant-loop-cursor text until lone leads stop₀ wasted₀ shy₀ base₀ bits₀ tokens₀ cursor₀ stop wasted shy base bits tokens cursor =
     Goes text (length text) cursor₀ stop wasted base bits cursor
     × Open text (read_up_to cursor tokens (length text))
     × (found text (read_up_to cursor tokens (length text)) ≡ found text (read_up_to cursor₀ tokens₀ (length text)))
 
-abbrev decreases-loop : tie.decreases-loop
-decreases-loop text until lone leads stop₀ wasted₀ shy₀ base₀ bits₀ tokens₀ cursor₀ stop wasted shy base bits tokens cursor = length text - cursor
+abbrev decreases-loop-cursor : tie.decreases-loop-cursor
+decreases-loop-cursor text until lone leads stop₀ wasted₀ shy₀ base₀ bits₀ tokens₀ cursor₀ stop wasted shy base bits tokens cursor = length text - cursor
 
 -- a turn of the loop: where it starts
-module _ (t : tie.In-loop invariant-loop decreases-loop) where
-  abbrev st : tie.Start invariant-loop decreases-loop
+module _ (t : tie.In-loop-cursor invariant-loop-cursor decreases-loop-cursor) where
+  abbrev st : tie.Start invariant-loop-cursor decreases-loop-cursor
   st = t.before.before.before.before.before
 
   abbrev s : List ℕ
   s = st.args.text.now
 
   abbrev i : ℕ
-  i = t.before.loop.cursor
+  i = t.before.loop-cursor.cursor
 
-  goes : Goes s (length s) st.args.from.cursor t.before.loop.stop t.before.loop.wasted t.before.loop.base t.before.loop.bits i
-  goes = t.before.loop.inv.0
+  goes : Goes s (length s) st.args.from.cursor t.before.loop-cursor.stop t.before.loop-cursor.wasted t.before.loop-cursor.base t.before.loop-cursor.bits i
+  goes = t.before.loop-cursor.inv.0
 
   inside : (i < length s) × (i < length s)
-  inside = goes_inside s _ _ _ _ _ _ i goes (omega arith) t.loop-test.taken
+  inside = goes_inside s _ _ _ _ _ _ i goes (omega arith) t.loop-cursor-test.taken-token
 
 -- the edges that are left, found or kept
-lefts : (j : tie.Joined1 invariant-loop decreases-loop) → let t = j.before in Left (s t) (i t) j.if1.base j.if1.bits
-lefts j = ⊎_elim (λ w. rw (w.2, w.3) w.1.ensures) (λ w. rw (w.1, w.2) (goes j.before).left) j.if1.branch
+lefts : (j : tie.Joined-bits-eq0 invariant-loop-cursor decreases-loop-cursor) → let t = j.before in Left (s t) (i t) j.if-bits-eq0.base j.if-bits-eq0.bits
+lefts j = ⊎_elim (λ w. rw (w.2, w.3) w.1.ensures) (λ w. rw (w.1, w.2) (goes j.before).left) j.if-bits-eq0.branch-raw
 
 -- the token, told or read
-settled : (n : tie.Joined2 invariant-loop decreases-loop) → let j = n.before.before.before.before in let t = j.before in Taken (s t) (i t) j.if1.base n.if2.token
+settled : (n : tie.Joined-token-eq-NoToken invariant-loop-cursor decreases-loop-cursor) → let j = n.before.before.before.before in let t = j.before in Taken (s t) (i t) j.if-bits-eq0.base n.if-token-eq-NoToken.token
 settled n =
     let j = n.before.before.before.before in
     let t = j.before in
-    let is : Next → Type 0 = Taken (s t) (i t) j.if1.base in
+    let is : Next → Type 0 = Taken (s t) (i t) j.if-bits-eq0.base in
     ⊎_elim
     (λ w. subst is (sym w.9) (w.2.ensures (s t) (i t) (st t).requires.0 (inside t).1 w.1.ensures (lefts j)))
     (⊎_elim
     (λ w. subst is (sym w.9) (w.2.ensures (s t) (i t) (st t).requires.0 (inside t).1 w.1.ensures (lefts j)))
-    (λ w. subst is (sym w.4) (n.before.before.plain.ensures w.0.left)))
-    n.if2.branch
+    (λ w. subst is (sym w.4) (n.before.before.plain-token.ensures w.0.left)))
+    n.if-token-eq-NoToken.branch-raw
 
 -- where the walk stops then
-spared : (n : tie.Joined2 invariant-loop decreases-loop) → let t = n.before.before.before.before.before in Spared (length (s t)) n.if2.stop n.if2.wasted
+spared : (n : tie.Joined-token-eq-NoToken invariant-loop-cursor decreases-loop-cursor) → let t = n.before.before.before.before.before in Spared (length (s t)) n.if-token-eq-NoToken.stop n.if-token-eq-NoToken.wasted
 spared n =
     let t = n.before.before.before.before.before in
     let g = (goes t).spared in
     ⊎_elim
     (λ w. rw w.6 (omega arith, λ l. absurd (omega arith)))
     (⊎_elim (λ w. rw (w.6, w.7) (g.0, λ l. omega (arith, w.5.left))) (λ w. rw (w.1, w.2) g))
-    n.if2.branch
+    n.if-token-eq-NoToken.branch-raw
 
-module _ (n : tie.Joined2 invariant-loop decreases-loop) where
+module _ (n : tie.Joined-token-eq-NoToken invariant-loop-cursor decreases-loop-cursor) where
   abbrev r : Lexed
-  r = record { kind = n.if2.token.kind; end = n.if2.token.end }
+  r = record { kind = n.if-token-eq-NoToken.token.kind; end = n.if-token-eq-NoToken.token.end }
 
   -- a turn moves the cursor on, and not past the end
   moves : (i n.before.before.before.before.before < r.end) × (r.end ≤ length (s n.before.before.before.before.before))
-  moves = let t = n.before.before.before.before.before in goes_moves (s t) _ _ _ _ _ _ (i t) (goes t) (omega arith) t.loop-test.taken n.before.before.before.before.if1.base n.if2.token (settled n)
+  moves = let t = n.before.before.before.before.before in goes_moves (s t) _ _ _ _ _ _ (i t) (goes t) (omega arith) t.loop-cursor-test.taken-token n.before.before.before.before.if-bits-eq0.base n.if-token-eq-NoToken.token (settled n)
 
-  on : let t = n.before.before.before.before.before in Goes (s t) (length (s t)) (st t).args.from.cursor n.if2.stop n.if2.wasted n.before.before.before.before.if1.base n.if2.token.bits r.end
-  on = let t = n.before.before.before.before.before in goes_on (s t) _ _ _ _ _ _ (i t) (goes t) (omega arith) t.loop-test.taken n.before.before.before.before.if1.base n.if2.token (settled n) _ _ (spared n)
+  on : let t = n.before.before.before.before.before in Goes (s t) (length (s t)) (st t).args.from.cursor n.if-token-eq-NoToken.stop n.if-token-eq-NoToken.wasted n.before.before.before.before.if-bits-eq0.base n.if-token-eq-NoToken.token.bits r.end
+  on = let t = n.before.before.before.before.before in goes_on (s t) _ _ _ _ _ _ (i t) (goes t) (omega arith) t.loop-cursor-test.taken-token n.before.before.before.before.if-bits-eq0.base n.if-token-eq-NoToken.token (settled n) _ _ (spared n)
 
 -- what a text is read up to, with no delimiter, is what it was read up to at first
-began : (t : tie.Start invariant-loop decreases-loop) → let f = t.args.from in let x = t.args.text.now in found x (read_up_to f.cursor f.tokens (length x)) ≡ found x f
+began : (t : tie.Start invariant-loop-cursor decreases-loop-cursor) → let f = t.args.from in let x = t.args.text.now in found x (read_up_to f.cursor f.tokens (length x)) ≡ found x f
 began t = ap (λ (b : ℕ). found t.args.text.now (read_up_to t.args.from.cursor t.args.from.tokens b)) (sym t.requires.1.bytes)
 
 -- a delimiter
-returns : tie.Need-returns invariant-loop decreases-loop
-returns c =
+returns-then-is_delimiter : tie.Need-returns-then-is_delimiter invariant-loop-cursor decreases-loop-cursor
+returns-then-is_delimiter c =
     let n = c.before.before.before in
     let t = n.before.before.before.before.before in
-    let v = t.before.loop.invariant in
-    let e = read-delimiter (s t) (read_up_to (i t) t.before.loop.tokens (length (s t))) v.1 (inside t).1 (r n) (settled n).0 (sym c.before.before.is-delimiter.ensures ∙ c.before.if4.true) in
+    let v = t.before.loop-cursor.invariant in
+    let e = read-delimiter (s t) (read_up_to (i t) t.before.loop-cursor.tokens (length (s t))) v.1 (inside t).1 (r n) (settled n).0 (sym c.before.before.is_delimiter.ensures ∙ c.before.if-is_delimiter.true) in
     let m = moves n in
-    subst (ReadOn (s t) (st t).args.from) (sym c.read-up-to.ensures)
+    subst (ReadOn (s t) (st t).args.from) (sym c.read_up_to.ensures)
     (record { moved = λ l. omega (arith, (goes t).later, m); inside = m.1; same = e ∙ v.2 ∙ began (st t); still = λ l. absurd (omega (arith, m)) })
 
 -- any other token
-loop-again : tie.Need-loop-preserved invariant-loop decreases-loop
-loop-again c =
+loop-cursor-preserved : tie.Need-loop-cursor-preserved invariant-loop-cursor decreases-loop-cursor
+loop-cursor-preserved c =
     let n = c.before.before in
     let t = n.before.before.before.before.before in
-    let v = t.before.loop.invariant in
-    let p = read_up_to (i t) t.before.loop.tokens (length (s t)) in
-    (on n, still_open (s t) p v.1 (inside t).1 (r n) (settled n).0, read_other (s t) p v.1 (inside t).1 (r n) (settled n).0 (sym c.before.is-delimiter.ensures ∙ c.if4.false) ∙ v.2)
+    let v = t.before.loop-cursor.invariant in
+    let p = read_up_to (i t) t.before.loop-cursor.tokens (length (s t)) in
+    (on n, still_open (s t) p v.1 (inside t).1 (r n) (settled n).0, read_other (s t) p v.1 (inside t).1 (r n) (settled n).0 (sym c.before.is_delimiter.ensures ∙ c.if-is_delimiter.false) ∙ v.2)
 
 -- no more tokens, or not now
-returns-2 : tie.Need-returns-2 invariant-loop decreases-loop
-returns-2 c =
-    let v = c.before.before.loop.invariant in
+returns : tie.Need-returns invariant-loop-cursor decreases-loop-cursor
+returns c =
+    let v = c.before.before.loop-cursor.invariant in
     let a = c.before.before.before.before.before.before in
-    subst (ReadOn a.args.text.now a.args.from) (sym c.read-up-to2.ensures)
-    (record { moved = goes_moved _ _ _ _ _ _ _ _ v.0 c.before.loop-test.false; inside = v.0.inside; same = v.2 ∙ began a; still = λ l. v.1 })
+    subst (ReadOn a.args.text.now a.args.from) (sym c.read_up_to-2.ensures)
+    (record { moved = goes_moved _ _ _ _ _ _ _ _ v.0 c.before.loop-cursor-test.false; inside = v.0.inside; same = v.2 ∙ began a; still = λ l. v.1 })
 
-pub read-some-spec : {M : Type 1} → statement M
-read-some-spec =
+pub read_some_spec : {M : Type 1} → statement M
+read_some_spec =
     tie.close
     (tie.spec
-    invariant-loop
-    decreases-loop
+    invariant-loop-cursor
+    decreases-loop-cursor
     (λ c κs. search rules)
     (λ c. let a = c.before.before.before in let o = a.requires.1 in (goes_first _ _ _ o.inside, record { inside = o.inside; few = o.few; bytes = refl }, refl))
     (λ c κs. (goes c.before).inside)
-    (λ c κs. let t = c.before.before in (c.before.before.before.before.leads.ensures, (st t).requires.0, (inside t).1, lefts c.before))
+    (λ c κs. let t = c.before.before in (c.before.before.before.before.leads-leads.ensures, (st t).requires.0, (inside t).1, lefts c.before))
     (λ c κs. let t = c.before.before.before.before.before in let p = (st t).requires in (p.0, (inside t).1, marked_later (s t) _ _ _ (st t).args.lone.now (goes t).later p.2))
     (λ c κs. search rules)
-    (λ c κs. let j = c.before.before.before.before.before.before in let t = j.before in let m = c.taken.ensures (s t) (i t) (st t).requires.0 (inside t).1 c.before.read.ensures (lefts j) in omega (arith, goes_moves (s t) _ _ _ _ _ _ (i t) (goes t) (omega arith) t.loop-test.true _ _ m))
+    (λ c κs. let j = c.before.before.before.before.before.before in let t = j.before in let m = c.taken-token.ensures (s t) (i t) (st t).requires.0 (inside t).1 c.before.read-lexed.ensures (lefts j) in omega (arith, goes_moves (s t) _ _ _ _ _ _ (i t) (goes t) (omega arith) t.loop-cursor-test.true _ _ m))
     (λ c κs. search rules)
-    (λ c. let t = c.before.before.before.before.before.before.before.before.before in omega (arith, c.wasted-by.ensures.1, (st t).requires.0, goes_spared (s t) _ _ _ _ _ _ (i t) (goes t) (omega arith) t.loop-test.true))
-    (λ c. let t = c.before.before.before.before.before in omega (arith, t.before.loop.invariant.1.few, moves c, (st t).requires.0))
+    (λ c. let t = c.before.before.before.before.before.before.before.before.before in omega (arith, c.wasted_by-wasted.ensures.1, (st t).requires.0, goes_spared (s t) _ _ _ _ _ _ (i t) (goes t) (omega arith) t.loop-cursor-test.true))
+    (λ c. let t = c.before.before.before.before.before in omega (arith, t.before.loop-cursor.invariant.1.few, moves c, (st t).requires.0))
     (λ c κs. search rules)
     (λ c κs. search rules)
-    returns
+    returns-then-is_delimiter
     (λ c. omega (arith, moves c.before.before))
-    loop-again
+    loop-cursor-preserved
     (λ c κs. search rules)
-    returns-2)
+    returns)

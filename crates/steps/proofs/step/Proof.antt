@@ -16,12 +16,12 @@ use Rattle.lexer.proofs.Ends.{split, sliced_token}
 use Rattle.steps.proofs.step.Statement.{statement}
 use Rattle.steps.proofs.step.Tie as tie
 
-returns : tie.Need-returns
-returns c =
+returns-then-text-max_query_size : tie.Need-returns-then-text-max_query_size
+returns-then-text-max_query_size c =
     let a = c.before.before.before.before.args in
-    c.refused-step.ensures ∙ ap stepped (sym (step_too_long a.text.now a.cursor (rw c.before.before.max-query-size.ensures at c.before.if1.true)))
+    c.refused_step.ensures ∙ ap stepped (sym (step_too_long a.text.now a.cursor (rw c.before.before.max_query_size.ensures at c.before.if-text-max_query_size.true)))
 
-module _ (c : tie.Else1) where
+module _ (c : tie.Else-text-max_query_size) where
   abbrev s : List ℕ
   s = c.before.before.before.args.text.now
 
@@ -29,16 +29,16 @@ module _ (c : tie.Else1) where
   i = c.before.before.before.args.cursor
 
   fits : length s ≤ max_query_size
-  fits = rw c.before.max-query-size.ensures at c.if1.false
+  fits = rw c.before.max_query_size.ensures at c.if-text-max_query_size.false
 
-returns-2 : tie.Need-returns-2
-returns-2 c =
+returns-then-cursor-text : tie.Need-returns-then-cursor-text
+returns-then-cursor-text c =
     let e = c.before.before in
-    c.refused-step2.ensures ∙ ap stepped (sym (step-beyond (s e) (i e) (fits e) c.before.if2.true))
+    c.refused_step-then-cursor-text.ensures ∙ ap stepped (sym (step-beyond (s e) (i e) (fits e) c.before.if-cursor-text.true))
 
 -- the token there, taken out of its number
-module _ (c : tie.After-kind-of) where
-  abbrev e : tie.Else1
+module _ (c : tie.After-kind_of) where
+  abbrev e : tie.Else-text-max_query_size
   e = c.before.before.before.before.before
 
   abbrev there : Lexed
@@ -48,21 +48,21 @@ module _ (c : tie.After-kind-of) where
   unfolding token_at
   ends h = step_ends (s e) (i e) h
 
-  taken : (c.kind-of.result ≡ there.kind) × (c.before.end_of.result ≡ there.end)
+  taken : (c.kind_of.result ≡ there.kind) × (c.before.end_of-end.result ≡ there.end)
   taken =
-      let t = split c.before.before.next-token.result there (c.before.before.next-token.ensures ∙ ap joined (sliced_token (i e) (s e))) (omega (arith, fits e, ends c.before.before.before.before.if2.false)) in
-      (c.kind-of.ensures ∙ t.0, c.before.end_of.ensures ∙ t.1)
+      let t = split c.before.before.next_token-l.result there (c.before.before.next_token-l.ensures ∙ ap joined (sliced_token (i e) (s e))) (omega (arith, fits e, ends c.before.before.before.before.if-cursor-text.false)) in
+      (c.kind_of.ensures ∙ t.0, c.before.end_of-end.ensures ∙ t.1)
 
-cast-t13 : tie.Need-overflow-cast-t13
-cast-t13 c = omega (arith, fits (e c), (taken c).1, ends c c.before.before.before.before.if2.false)
+overflow_cast-result-2 : tie.Need-overflow_cast-result-2
+overflow_cast-result-2 c = omega (arith, fits (e c), (taken c).1, ends c c.before.before.before.before.if-cursor-text.false)
 
 abbrev answer : ℕ → ℕ → ℕ → Stepped
 answer at kind end = record { number = Done; value = end; token = record { kind = kind; start = at; end = end }; cursor = end }
 
-returns-3 : tie.Need-returns-3
+returns : tie.Need-returns
 unfolding token_at
-returns-3 c =
-    ap₂ (answer (i (e c))) (taken c).0 (taken c).1 ∙ ap stepped (sym (step_done (s (e c)) (i (e c)) (fits (e c)) c.before.before.before.before.if2.false))
+returns c =
+    ap₂ (answer (i (e c))) (taken c).0 (taken c).1 ∙ ap stepped (sym (step_done (s (e c)) (i (e c)) (fits (e c)) c.before.before.before.before.if-cursor-text.false))
 
 pub step_spec : {M : Type 1} → statement M
 step_spec =
@@ -70,9 +70,9 @@ step_spec =
     (tie.spec
     (λ c κs. search rules)
     (λ c κs. search rules)
-    returns
+    returns-then-text-max_query_size
     (λ c κs. search rules)
-    returns-2
+    returns-then-cursor-text
     (λ c. search rules)
     (λ c. search rules)
     (λ c. search rules)
@@ -80,5 +80,5 @@ step_spec =
     (λ c κs. search rules)
     (λ c κs. search rules)
     (λ c. search rules)
-    cast-t13
-    returns-3)
+    overflow_cast-result-2
+    returns)

@@ -6,7 +6,7 @@ use Rattle.utf8.proofs.ascii16.Statement.{statement}
 use Rattle.utf8.proofs.ascii16.Tie as tie
 
 returns : tie.Need-returns
-returns c = pass_two 8 c.before.ascii8.ensures c.ascii82.ensures (omega arith)
+returns c = pass_two 8 c.before.ascii8.ensures c.ascii8-2.ensures (omega arith)
 
-pub ascii16-spec : {M : Type 1} → statement M
-ascii16-spec = tie.close (tie.spec (λ c κs. search rules) (λ c. search rules) (λ c κs. search rules) returns)
+pub ascii16_spec : {M : Type 1} → statement M
+ascii16_spec = tie.close (tie.spec (λ c κs. search rules) (λ c. search rules) (λ c κs. search rules) returns)

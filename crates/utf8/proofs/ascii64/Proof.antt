@@ -6,7 +6,7 @@ use Rattle.utf8.proofs.ascii64.Statement.{statement}
 use Rattle.utf8.proofs.ascii64.Tie as tie
 
 returns : tie.Need-returns
-returns c = pass_two 32 c.before.ascii32.ensures c.ascii322.ensures (omega arith)
+returns c = pass_two 32 c.before.ascii32.ensures c.ascii32-2.ensures (omega arith)
 
-pub ascii64-spec : {M : Type 1} → statement M
-ascii64-spec = tie.close (tie.spec (λ c κs. search rules) (λ c. search rules) (λ c κs. search rules) returns)
+pub ascii64_spec : {M : Type 1} → statement M
+ascii64_spec = tie.close (tie.spec (λ c κs. search rules) (λ c. search rules) (λ c κs. search rules) returns)

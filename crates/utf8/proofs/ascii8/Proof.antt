@@ -6,50 +6,50 @@ use borrow.Author.Rules.{rules}
 use Rattle.utf8.proofs.ascii8.Statement.{statement}
 use Rattle.utf8.proofs.ascii8.Tie as tie
 
-shared-slice-read-a : tie.Need-shared-slice-read-a
-shared-slice-read-a c = search rules
+bounds-s-i : tie.Need-bounds-s-i
+bounds-s-i c = search rules
 
-add_a : tie.Need-overflow-add-a
-add_a c = search rules
+overflow_add-a : tie.Need-overflow_add-a
+overflow_add-a c = search rules
 
-shared-slice-read-a-2 : tie.Need-shared-slice-read-a-2
-shared-slice-read-a-2 c = search rules
+bounds-s-i-2 : tie.Need-bounds-s-i-2
+bounds-s-i-2 c = search rules
 
-add-a-2 : tie.Need-overflow-add-a-2
-add-a-2 c = search rules
+overflow_add-a-2 : tie.Need-overflow_add-a-2
+overflow_add-a-2 c = search rules
 
-shared-slice-read-a-3 : tie.Need-shared-slice-read-a-3
-shared-slice-read-a-3 c = search rules
+bounds-s-i-3 : tie.Need-bounds-s-i-3
+bounds-s-i-3 c = search rules
 
-add-a-3 : tie.Need-overflow-add-a-3
-add-a-3 c = search rules
+overflow_add-a-3 : tie.Need-overflow_add-a-3
+overflow_add-a-3 c = search rules
 
-shared-slice-read-a-4 : tie.Need-shared-slice-read-a-4
-shared-slice-read-a-4 c = search rules
+bounds-s-i-4 : tie.Need-bounds-s-i-4
+bounds-s-i-4 c = search rules
 
-add-a-4 : tie.Need-overflow-add-a-4
-add-a-4 c = search rules
+overflow_add-a-4 : tie.Need-overflow_add-a-4
+overflow_add-a-4 c = search rules
 
-shared-slice-read-a-5 : tie.Need-shared-slice-read-a-5
-shared-slice-read-a-5 c = search rules
+bounds-s-i-5 : tie.Need-bounds-s-i-5
+bounds-s-i-5 c = search rules
 
-add-a-5 : tie.Need-overflow-add-a-5
-add-a-5 c = search rules
+overflow_add-a-5 : tie.Need-overflow_add-a-5
+overflow_add-a-5 c = search rules
 
-shared-slice-read-a-6 : tie.Need-shared-slice-read-a-6
-shared-slice-read-a-6 c = search rules
+bounds-s-i-6 : tie.Need-bounds-s-i-6
+bounds-s-i-6 c = search rules
 
-add-a-6 : tie.Need-overflow-add-a-6
-add-a-6 c = search rules
+overflow_add-a-6 : tie.Need-overflow_add-a-6
+overflow_add-a-6 c = search rules
 
-shared-slice-read-a-7 : tie.Need-shared-slice-read-a-7
-shared-slice-read-a-7 c = search rules
+bounds-s-i-7 : tie.Need-bounds-s-i-7
+bounds-s-i-7 c = search rules
 
-add-a-7 : tie.Need-overflow-add-a-7
-add-a-7 c = search rules
+overflow_add-a-7 : tie.Need-overflow_add-a-7
+overflow_add-a-7 c = search rules
 
-shared-slice-read-a-8 : tie.Need-shared-slice-read-a-8
-shared-slice-read-a-8 c = search rules
+bounds-s-i-8 : tie.Need-bounds-s-i-8
+bounds-s-i-8 c = search rules
 
 returns : tie.Need-returns
 returns c = λ e.
@@ -66,23 +66,23 @@ returns c = λ e.
     (pass_first s i (omega arith))))))))
     (ltb-true _ _ e)
 
-pub ascii8-spec : {M : Type 1} → statement M
-ascii8-spec =
+pub ascii8_spec : {M : Type 1} → statement M
+ascii8_spec =
     tie.close
     (tie.spec
-    shared-slice-read-a
-    add_a
-    shared-slice-read-a-2
-    add-a-2
-    shared-slice-read-a-3
-    add-a-3
-    shared-slice-read-a-4
-    add-a-4
-    shared-slice-read-a-5
-    add-a-5
-    shared-slice-read-a-6
-    add-a-6
-    shared-slice-read-a-7
-    add-a-7
-    shared-slice-read-a-8
+    bounds-s-i
+    overflow_add-a
+    bounds-s-i-2
+    overflow_add-a-2
+    bounds-s-i-3
+    overflow_add-a-3
+    bounds-s-i-4
+    overflow_add-a-4
+    bounds-s-i-5
+    overflow_add-a-5
+    bounds-s-i-6
+    overflow_add-a-6
+    bounds-s-i-7
+    overflow_add-a-7
+    bounds-s-i-8
     returns)

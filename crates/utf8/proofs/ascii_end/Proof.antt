@@ -9,116 +9,116 @@ use Rattle.utf8.proofs.Passing.{pass_none, pass_byte, pass_on}
 use Rattle.utf8.proofs.ascii_end.Statement.{statement}
 use Rattle.utf8.proofs.ascii_end.Tie as tie
 
-abbrev invariant-loop : tie.invariant-loop
-invariant-loop s j k₀ k = Passes s j k
+abbrev invariant-loop-k : tie.invariant-loop-k
+invariant-loop-k s j k₀ k = Passes s j k
 
-abbrev decreases-loop : tie.decreases-loop
-decreases-loop s j k₀ k = length s - k
+abbrev decreases-loop-k : tie.decreases-loop-k
+decreases-loop-k s j k₀ k = length s - k
 
-abbrev invariant-loop2 : tie.invariant-loop2
-invariant-loop2 s j k₀ k = Passes s j k
+abbrev invariant-loop-k-2 : tie.invariant-loop-k-2
+invariant-loop-k-2 s j k₀ k = Passes s j k
 
-abbrev decreases-loop2 : tie.decreases-loop2
-decreases-loop2 s j k₀ k = length s - k
+abbrev decreases-loop-k-2 : tie.decreases-loop-k-2
+decreases-loop-k-2 s j k₀ k = length s - k
 
-abbrev invariant-loop3 : tie.invariant-loop3
-invariant-loop3 s j k₀ k = Passes s j k
+abbrev invariant-loop-k-3 : tie.invariant-loop-k-3
+invariant-loop-k-3 s j k₀ k = Passes s j k
 
-abbrev decreases-loop3 : tie.decreases-loop3
-decreases-loop3 s j k₀ k = length s - k
+abbrev decreases-loop-k-3 : tie.decreases-loop-k-3
+decreases-loop-k-3 s j k₀ k = length s - k
 
-byte-at-requires : tie.Need-byte-at-requires invariant-loop decreases-loop invariant-loop2 decreases-loop2 invariant-loop3 decreases-loop3
-byte-at-requires c κs = search rules
+byte_at-requires : tie.Need-byte_at-requires invariant-loop-k decreases-loop-k invariant-loop-k-2 decreases-loop-k-2 invariant-loop-k-3 decreases-loop-k-3
+byte_at-requires c κs = search rules
 
-returns : tie.Need-returns invariant-loop decreases-loop invariant-loop2 decreases-loop2 invariant-loop3 decreases-loop3
-returns c = pass_none _ _ (omega arith)
+returns-then-byte_at-ge128 : tie.Need-returns-then-byte_at-ge128 invariant-loop-k decreases-loop-k invariant-loop-k-2 decreases-loop-k-2 invariant-loop-k-3 decreases-loop-k-3
+returns-then-byte_at-ge128 c = pass_none _ _ (omega arith)
 
-loop-holds : tie.Need-loop-init invariant-loop decreases-loop invariant-loop2 decreases-loop2 invariant-loop3 decreases-loop3
-loop-holds c = pass_none _ _ (omega arith)
+loop-k-init : tie.Need-loop-k-init invariant-loop-k decreases-loop-k invariant-loop-k-2 decreases-loop-k-2 invariant-loop-k-3 decreases-loop-k-3
+loop-k-init c = pass_none _ _ (omega arith)
 
-sub-loop : tie.Need-overflow-sub-loop invariant-loop decreases-loop invariant-loop2 decreases-loop2 invariant-loop3 decreases-loop3
-sub-loop c = omega arith
+overflow_sub-s : tie.Need-overflow_sub-s invariant-loop-k decreases-loop-k invariant-loop-k-2 decreases-loop-k-2 invariant-loop-k-3 decreases-loop-k-3
+overflow_sub-s c = omega arith
 
-ascii64-requires : tie.Need-ascii64-requires invariant-loop decreases-loop invariant-loop2 decreases-loop2 invariant-loop3 decreases-loop3
+ascii64-requires : tie.Need-ascii64-requires invariant-loop-k decreases-loop-k invariant-loop-k-2 decreases-loop-k-2 invariant-loop-k-3 decreases-loop-k-3
 ascii64-requires c κs = omega arith
 
-add-k : tie.Need-overflow-add-k invariant-loop decreases-loop invariant-loop2 decreases-loop2 invariant-loop3 decreases-loop3
-add-k c = omega arith
+overflow_add-k : tie.Need-overflow_add-k invariant-loop-k decreases-loop-k invariant-loop-k-2 decreases-loop-k-2 invariant-loop-k-3 decreases-loop-k-3
+overflow_add-k c = omega arith
 
-loop-less : tie.Need-loop-smaller invariant-loop decreases-loop invariant-loop2 decreases-loop2 invariant-loop3 decreases-loop3
-loop-less c = omega arith
+loop-k-smaller : tie.Need-loop-k-smaller invariant-loop-k decreases-loop-k invariant-loop-k-2 decreases-loop-k-2 invariant-loop-k-3 decreases-loop-k-3
+loop-k-smaller c = omega arith
 
-loop-again : tie.Need-loop-preserved invariant-loop decreases-loop invariant-loop2 decreases-loop2 invariant-loop3 decreases-loop3
-loop-again c = pass_on _ _ _ _ c.before.before.before.loop.invariant (c.before.ascii64.ensures (not-false _ c.if2.false))
+loop-k-preserved : tie.Need-loop-k-preserved invariant-loop-k decreases-loop-k invariant-loop-k-2 decreases-loop-k-2 invariant-loop-k-3 decreases-loop-k-3
+loop-k-preserved c = pass_on _ _ _ _ c.before.before.before.loop-k.invariant (c.before.ascii64.ensures (not-false _ c.if-not-ascii64.false))
 
-loop2-holds : tie.Need-loop2-init invariant-loop decreases-loop invariant-loop2 decreases-loop2 invariant-loop3 decreases-loop3
-loop2-holds c = c.before.loop.invariant
+loop-k-2-init : tie.Need-loop-k-2-init invariant-loop-k decreases-loop-k invariant-loop-k-2 decreases-loop-k-2 invariant-loop-k-3 decreases-loop-k-3
+loop-k-2-init c = c.before.loop-k.invariant
 
-sub-loop2 : tie.Need-overflow-sub-loop2 invariant-loop decreases-loop invariant-loop2 decreases-loop2 invariant-loop3 decreases-loop3
-sub-loop2 c = omega arith
+overflow_sub-s-in-loop-k-2 : tie.Need-overflow_sub-s-in-loop-k-2 invariant-loop-k decreases-loop-k invariant-loop-k-2 decreases-loop-k-2 invariant-loop-k-3 decreases-loop-k-3
+overflow_sub-s-in-loop-k-2 c = omega arith
 
-ascii8-requires : tie.Need-ascii8-requires invariant-loop decreases-loop invariant-loop2 decreases-loop2 invariant-loop3 decreases-loop3
+ascii8-requires : tie.Need-ascii8-requires invariant-loop-k decreases-loop-k invariant-loop-k-2 decreases-loop-k-2 invariant-loop-k-3 decreases-loop-k-3
 ascii8-requires c κs = omega arith
 
-add-k-2 : tie.Need-overflow-add-k-2 invariant-loop decreases-loop invariant-loop2 decreases-loop2 invariant-loop3 decreases-loop3
-add-k-2 c = omega arith
+overflow_add-k-in-loop-k-2 : tie.Need-overflow_add-k-in-loop-k-2 invariant-loop-k decreases-loop-k invariant-loop-k-2 decreases-loop-k-2 invariant-loop-k-3 decreases-loop-k-3
+overflow_add-k-in-loop-k-2 c = omega arith
 
-loop2-less : tie.Need-loop2-smaller invariant-loop decreases-loop invariant-loop2 decreases-loop2 invariant-loop3 decreases-loop3
-loop2-less c = omega arith
+loop-k-2-smaller : tie.Need-loop-k-2-smaller invariant-loop-k decreases-loop-k invariant-loop-k-2 decreases-loop-k-2 invariant-loop-k-3 decreases-loop-k-3
+loop-k-2-smaller c = omega arith
 
-loop2-again : tie.Need-loop2-preserved invariant-loop decreases-loop invariant-loop2 decreases-loop2 invariant-loop3 decreases-loop3
-loop2-again c = pass_on _ _ _ _ c.before.before.before.loop2.invariant (c.before.ascii8.ensures (not-false _ c.if3.false))
+loop-k-2-preserved : tie.Need-loop-k-2-preserved invariant-loop-k decreases-loop-k invariant-loop-k-2 decreases-loop-k-2 invariant-loop-k-3 decreases-loop-k-3
+loop-k-2-preserved c = pass_on _ _ _ _ c.before.before.before.loop-k-2.invariant (c.before.ascii8.ensures (not-false _ c.if-not-ascii8.false))
 
-loop3-holds : tie.Need-loop3-init invariant-loop decreases-loop invariant-loop2 decreases-loop2 invariant-loop3 decreases-loop3
-loop3-holds c = c.before.loop2.invariant
+loop-k-3-init : tie.Need-loop-k-3-init invariant-loop-k decreases-loop-k invariant-loop-k-2 decreases-loop-k-2 invariant-loop-k-3 decreases-loop-k-3
+loop-k-3-init c = c.before.loop-k-2.invariant
 
-shared-slice-read-if4 :
-    tie.Need-shared-slice-read-if4 invariant-loop decreases-loop invariant-loop2 decreases-loop2 invariant-loop3 decreases-loop3
-shared-slice-read-if4 c = omega arith
+bounds-s-k :
+    tie.Need-bounds-s-k invariant-loop-k decreases-loop-k invariant-loop-k-2 decreases-loop-k-2 invariant-loop-k-3 decreases-loop-k-3
+bounds-s-k c = omega arith
 
-add-k-3 : tie.Need-overflow-add-k-3 invariant-loop decreases-loop invariant-loop2 decreases-loop2 invariant-loop3 decreases-loop3
-add-k-3 c = omega arith
+overflow_add-k-in-loop-k-3 : tie.Need-overflow_add-k-in-loop-k-3 invariant-loop-k decreases-loop-k invariant-loop-k-2 decreases-loop-k-2 invariant-loop-k-3 decreases-loop-k-3
+overflow_add-k-in-loop-k-3 c = omega arith
 
-loop3-less : tie.Need-loop3-smaller invariant-loop decreases-loop invariant-loop2 decreases-loop2 invariant-loop3 decreases-loop3
-loop3-less c = omega arith
+loop-k-3-smaller : tie.Need-loop-k-3-smaller invariant-loop-k decreases-loop-k invariant-loop-k-2 decreases-loop-k-2 invariant-loop-k-3 decreases-loop-k-3
+loop-k-3-smaller c = omega arith
 
-loop3-again : tie.Need-loop3-preserved invariant-loop decreases-loop invariant-loop2 decreases-loop2 invariant-loop3 decreases-loop3
-loop3-again c = pass_byte _ _ _ c.before.before.before.loop3.invariant c.before.before.loop3-test.true c.if4.false
+loop-k-3-preserved : tie.Need-loop-k-3-preserved invariant-loop-k decreases-loop-k invariant-loop-k-2 decreases-loop-k-2 invariant-loop-k-3 decreases-loop-k-3
+loop-k-3-preserved c = pass_byte _ _ _ c.before.before.before.loop-k-3.invariant c.before.before.loop-k-3-test.true c.if-s-k-ge128.false
 
-returns-2 : tie.Need-returns-2 invariant-loop decreases-loop invariant-loop2 decreases-loop2 invariant-loop3 decreases-loop3
-returns-2 c = c.before.loop3.invariant
+returns-after-loop-k-3 : tie.Need-returns-after-loop-k-3 invariant-loop-k decreases-loop-k invariant-loop-k-2 decreases-loop-k-2 invariant-loop-k-3 decreases-loop-k-3
+returns-after-loop-k-3 c = c.before.loop-k-3.invariant
 
-returns-3 : tie.Need-returns-3 invariant-loop decreases-loop invariant-loop2 decreases-loop2 invariant-loop3 decreases-loop3
-returns-3 c = c.before.before.before.loop3.invariant
+returns-then-s-k-ge128 : tie.Need-returns-then-s-k-ge128 invariant-loop-k decreases-loop-k invariant-loop-k-2 decreases-loop-k-2 invariant-loop-k-3 decreases-loop-k-3
+returns-then-s-k-ge128 c = c.before.before.before.loop-k-3.invariant
 
-pub ascii-end-spec : {M : Type 1} → statement M
-ascii-end-spec =
+pub ascii_end_spec : {M : Type 1} → statement M
+ascii_end_spec =
     tie.close
     (tie.spec
-    invariant-loop
-    decreases-loop
-    invariant-loop2
-    decreases-loop2
-    invariant-loop3
-    decreases-loop3
-    byte-at-requires
-    returns
-    loop-holds
-    sub-loop
+    invariant-loop-k
+    decreases-loop-k
+    invariant-loop-k-2
+    decreases-loop-k-2
+    invariant-loop-k-3
+    decreases-loop-k-3
+    byte_at-requires
+    returns-then-byte_at-ge128
+    loop-k-init
+    overflow_sub-s
     ascii64-requires
-    add-k
-    loop-less
-    loop-again
-    loop2-holds
-    sub-loop2
+    overflow_add-k
+    loop-k-smaller
+    loop-k-preserved
+    loop-k-2-init
+    overflow_sub-s-in-loop-k-2
     ascii8-requires
-    add-k-2
-    loop2-less
-    loop2-again
-    loop3-holds
-    shared-slice-read-if4
-    add-k-3
-    loop3-less
-    loop3-again
-    returns-2
-    returns-3)
+    overflow_add-k-in-loop-k-2
+    loop-k-2-smaller
+    loop-k-2-preserved
+    loop-k-3-init
+    bounds-s-k
+    overflow_add-k-in-loop-k-3
+    loop-k-3-smaller
+    loop-k-3-preserved
+    returns-after-loop-k-3
+    returns-then-s-k-ge128)

@@ -36,53 +36,53 @@ module _ (s : List ℕ) (i : ℕ) where
     third_at v f ec g q =
         sym (high-at ∙ ap₂ (λ (t u : Bool). cond (t && u && true) 3 (cond (t && true && true) 2 1)) f (sym (rw ec at g) ∙ q))
 
-returns : tie.Need-returns
-returns c = let x = c.before.before.before.args in low-at x.s.now x.j (omega arith)
+returns-then-a-lt224 : tie.Need-returns-then-a-lt224
+returns-then-a-lt224 c = let x = c.before.before.before.args in low-at x.s.now x.j (omega arith)
 
-returns-2 : tie.Need-returns-2
-returns-2 c =
+returns-then-is_three : tie.Need-returns-then-is_three
+returns-then-is_three c =
     let x = c.before.before.before.before.before.before.before.args in
-    middle-at x.s.now x.j true (omega arith) (omega arith) c.before.before.before.byte_at.ensures c.before.is-three.ensures c.if3.true
+    middle-at x.s.now x.j true (omega arith) (omega arith) c.before.before.before.byte_at-b.ensures c.before.is_three.ensures c.if-is_three.true
 
-returns-3 : tie.Need-returns-3
-returns-3 c =
+returns-else-is_three : tie.Need-returns-else-is_three
+returns-else-is_three c =
     let x = c.before.before.before.before.before.before.before.args in
-    middle-at x.s.now x.j false (omega arith) (omega arith) c.before.before.before.byte_at.ensures c.before.is-three.ensures c.if3.false
+    middle-at x.s.now x.j false (omega arith) (omega arith) c.before.before.before.byte_at-b.ensures c.before.is_three.ensures c.if-is_three.false
 
-returns-4 : tie.Need-returns-4
-returns-4 c =
+returns-then-not-is_second : tie.Need-returns-then-not-is_second
+returns-then-not-is_second c =
     let x = c.before.before.before.before.before.before.before.args in
-    lone-at x.s.now x.j (omega arith) c.before.is-second.result c.before.before.before.byte_at.ensures c.before.is-second.ensures (not-true c.before.is-second.result c.if4.true)
+    lone-at x.s.now x.j (omega arith) c.before.is_second.result c.before.before.before.byte_at-b.ensures c.before.is_second.ensures (not-true c.before.is_second.result c.if-not-is_second.true)
 
-third : (c : tie.After-is-tail) (v : Bool) → c.is-tail.result ≡ v
+third : (c : tie.After-is_tail) (v : Bool) → c.is_tail.result ≡ v
     → let x = c.before.before.before.before.before.before.before.before.before.args in cond (v && true) 3 2 ≡ broken_length (drop x.j x.s.now)
 third c v q =
     let x = c.before.before.before.before.before.before.before.before.before.args in
-    let t = c.before.before.before.is-second in
-    third_at x.s.now x.j (omega arith) t.result c.before.before.before.before.before.byte_at.ensures t.ensures v
-    (not-false t.result c.before.before.if4.false) c.before.byte-at2.ensures c.is-tail.ensures q
+    let t = c.before.before.before.is_second in
+    third_at x.s.now x.j (omega arith) t.result c.before.before.before.before.before.byte_at-b.ensures t.ensures v
+    (not-false t.result c.before.before.if-not-is_second.false) c.before.byte_at.ensures c.is_tail.ensures q
 
-returns-5 : tie.Need-returns-5
-returns-5 c = third c.before true c.if5.true
+returns-then-is_tail : tie.Need-returns-then-is_tail
+returns-then-is_tail c = third c.before true c.if-is_tail.true
 
-returns-6 : tie.Need-returns-6
-returns-6 c = third c.before false c.if5.false
+returns-else-is_tail : tie.Need-returns-else-is_tail
+returns-else-is_tail c = third c.before false c.if-is_tail.false
 
-pub begun-at-spec : {M : Type 1} → statement M
-begun-at-spec =
+pub begun_at_spec : {M : Type 1} → statement M
+begun_at_spec =
     tie.close
     (tie.spec
     (λ c. search rules)
-    returns
+    returns-then-a-lt224
     (λ c. search rules)
     (λ c κs. search rules)
     (λ c κs. search rules)
-    returns-2
-    returns-3
+    returns-then-is_three
+    returns-else-is_three
     (λ c κs. search rules)
-    returns-4
+    returns-then-not-is_second
     (λ c. search rules)
     (λ c κs. search rules)
     (λ c κs. search rules)
-    returns-5
-    returns-6)
+    returns-then-is_tail
+    returns-else-is_tail)

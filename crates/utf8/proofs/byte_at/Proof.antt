@@ -5,14 +5,14 @@ use borrow.Author.Rules.{rules}
 use Rattle.utf8.proofs.byte_at.Statement.{statement}
 use Rattle.utf8.proofs.byte_at.Tie as tie
 
-shared-slice-read-result : tie.Need-shared-slice-read-result
-shared-slice-read-result c = search rules
+bounds-s-i : tie.Need-bounds-s-i
+bounds-s-i c = search rules
 
-returns : tie.Need-returns
-returns c = search rules
+returns-then-i-s : tie.Need-returns-then-i-s
+returns-then-i-s c = search rules
 
-returns-2 : tie.Need-returns-2
-returns-2 c = sym (get_or-eq_default c.before.args.s.now 0 c.if1.false)
+returns-else-i-s : tie.Need-returns-else-i-s
+returns-else-i-s c = sym (get_or-eq_default c.before.args.s.now 0 c.if-i-s.false)
 
-pub byte-at-spec : {M : Type 1} → statement M
-byte-at-spec = tie.close (tie.spec shared-slice-read-result returns returns-2)
+pub byte_at_spec : {M : Type 1} → statement M
+byte_at_spec = tie.close (tie.spec bounds-s-i returns-then-i-s returns-else-i-s)

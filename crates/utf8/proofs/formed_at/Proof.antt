@@ -32,125 +32,125 @@ module _ (s : List ℕ) (i : ℕ) where
   short-at : 0xF0 ≤ get_or s i 0 → length s ≤ i + 3 → 0 ≡ well_formed (drop i s)
   short-at l h = four-at false l refl (four_short (get_or s i 0) (get_or s (i + 1) 0) (get_or s (i + 2) 0) _ (get_or-eq_default s 0 h))
 
-shared-slice-read-a : tie.Need-shared-slice-read-a
-shared-slice-read-a c = search rules
+bounds-s-j : tie.Need-bounds-s-j
+bounds-s-j c = search rules
 
-returns : tie.Need-returns
-returns c = let x = c.before.before.before.before.args in sym (at_index x.s.now x.j ∙ formed-one _ _ _ _ (omega arith))
+returns-then-a-lt128 : tie.Need-returns-then-a-lt128
+returns-then-a-lt128 c = let x = c.before.before.before.before.args in sym (at_index x.s.now x.j ∙ formed-one _ _ _ _ (omega arith))
 
-returns-2 : tie.Need-returns-2
-returns-2 c =
+returns-then-a-lt194 : tie.Need-returns-then-a-lt194
+returns-then-a-lt194 c =
     let x = c.before.before.before.before.before.args in
     sym (at_index x.s.now x.j ∙ formed_low _ _ _ _ (omega arith) (omega arith))
 
-add-byte-at : tie.Need-overflow-add-byte-at
-add-byte-at c = search rules
+overflow_add-j : tie.Need-overflow_add-j
+overflow_add-j c = search rules
 
-byte-at-requires : tie.Need-byte-at-requires
-byte-at-requires c κs = search rules
+byte_at-requires : tie.Need-byte_at-requires
+byte_at-requires c κs = search rules
 
-is-tail-requires : tie.Need-is-tail-requires
-is-tail-requires c κs = search rules
+is_tail-requires : tie.Need-is_tail-requires
+is_tail-requires c κs = search rules
 
-returns-3 : tie.Need-returns-3
-returns-3 c =
+returns-then-is_tail : tie.Need-returns-then-is_tail
+returns-then-is_tail c =
     let x = c.before.before.before.before.before.before.before.before.args in
-    two_at x.s.now x.j true (omega arith) (omega arith) c.before.before.byte_at.ensures c.before.is-tail.ensures c.if4.true
+    two_at x.s.now x.j true (omega arith) (omega arith) c.before.before.byte_at.ensures c.before.is_tail.ensures c.if-is_tail.true
 
-returns-4 : tie.Need-returns-4
-returns-4 c =
+returns-else-is_tail : tie.Need-returns-else-is_tail
+returns-else-is_tail c =
     let x = c.before.before.before.before.before.before.before.before.args in
-    two_at x.s.now x.j false (omega arith) (omega arith) c.before.before.byte_at.ensures c.before.is-tail.ensures c.if4.false
+    two_at x.s.now x.j false (omega arith) (omega arith) c.before.before.byte_at.ensures c.before.is_tail.ensures c.if-is_tail.false
 
-add-byte-at-2 : tie.Need-overflow-add-byte-at-2
-add-byte-at-2 c = search rules
+overflow_add-j-then-a-lt240 : tie.Need-overflow_add-j-then-a-lt240
+overflow_add-j-then-a-lt240 c = search rules
 
-byte-at-requires-2 : tie.Need-byte-at-requires-2
-byte-at-requires-2 c κs = search rules
+byte_at-requires-then-a-lt240 : tie.Need-byte_at-requires-then-a-lt240
+byte_at-requires-then-a-lt240 c κs = search rules
 
-add-byte-at-3 : tie.Need-overflow-add-byte-at-3
-add-byte-at-3 c = search rules
+overflow_add-j-then-a-lt240-2 : tie.Need-overflow_add-j-then-a-lt240-2
+overflow_add-j-then-a-lt240-2 c = search rules
 
-byte-at-requires-3 : tie.Need-byte-at-requires-3
-byte-at-requires-3 c κs = search rules
+byte_at-requires-then-a-lt240-2 : tie.Need-byte_at-requires-then-a-lt240-2
+byte_at-requires-then-a-lt240-2 c κs = search rules
 
-is-three-requires : tie.Need-is-three-requires
-is-three-requires c κs = search rules
+is_three-requires : tie.Need-is_three-requires
+is_three-requires c κs = search rules
 
-returns-5 : tie.Need-returns-5
-returns-5 c =
+returns-then-is_three : tie.Need-returns-then-is_three
+returns-then-is_three c =
     let x = c.before.before.before.before.before.before.before.before.args in
-    three-at x.s.now x.j true (omega arith) (omega arith) c.before.before.before.byte-at2.ensures c.before.before.byte-at3.ensures c.before.is-three.ensures c.if6.true
+    three-at x.s.now x.j true (omega arith) (omega arith) c.before.before.before.byte_at-then-a-lt240.ensures c.before.before.byte_at-then-a-lt240-2.ensures c.before.is_three.ensures c.if-is_three.true
 
-returns-6 : tie.Need-returns-6
-returns-6 c =
+returns-else-is_three : tie.Need-returns-else-is_three
+returns-else-is_three c =
     let x = c.before.before.before.before.before.before.before.before.args in
-    three-at x.s.now x.j false (omega arith) (omega arith) c.before.before.before.byte-at2.ensures c.before.before.byte-at3.ensures c.before.is-three.ensures c.if6.false
+    three-at x.s.now x.j false (omega arith) (omega arith) c.before.before.before.byte_at-then-a-lt240.ensures c.before.before.byte_at-then-a-lt240-2.ensures c.before.is_three.ensures c.if-is_three.false
 
-sub-if7 : tie.Need-overflow-sub-if7
-sub-if7 c = search rules
+overflow_sub-s : tie.Need-overflow_sub-s
+overflow_sub-s c = search rules
 
-returns-7 : tie.Need-returns-7
-returns-7 c = let x = c.before.before.before.before.before.args in short-at x.s.now x.j (omega arith) (omega arith)
+returns-then-s-j-lt4 : tie.Need-returns-then-s-j-lt4
+returns-then-s-j-lt4 c = let x = c.before.before.before.before.before.args in short-at x.s.now x.j (omega arith) (omega arith)
 
-add-is-four : tie.Need-overflow-add-is-four
-add-is-four c = search rules
+overflow_add-j-2 : tie.Need-overflow_add-j-2
+overflow_add-j-2 c = search rules
 
-shared-slice-read-is-four : tie.Need-shared-slice-read-is-four
-shared-slice-read-is-four c = search rules
+bounds-s-j-2 : tie.Need-bounds-s-j-2
+bounds-s-j-2 c = search rules
 
-add-is-four-2 : tie.Need-overflow-add-is-four-2
-add-is-four-2 c = search rules
+overflow_add-j-3 : tie.Need-overflow_add-j-3
+overflow_add-j-3 c = search rules
 
-shared-slice-read-is-four-2 : tie.Need-shared-slice-read-is-four-2
-shared-slice-read-is-four-2 c = search rules
+bounds-s-j-3 : tie.Need-bounds-s-j-3
+bounds-s-j-3 c = search rules
 
-add-is-four-3 : tie.Need-overflow-add-is-four-3
-add-is-four-3 c = search rules
+overflow_add-j-4 : tie.Need-overflow_add-j-4
+overflow_add-j-4 c = search rules
 
-shared-slice-read-is-four-3 : tie.Need-shared-slice-read-is-four-3
-shared-slice-read-is-four-3 c = search rules
+bounds-s-j-4 : tie.Need-bounds-s-j-4
+bounds-s-j-4 c = search rules
 
-is-four-requires : tie.Need-is-four-requires
-is-four-requires c κs = search rules
+is_four-requires : tie.Need-is_four-requires
+is_four-requires c κs = search rules
 
-returns-8 : tie.Need-returns-8
-returns-8 c =
+returns-then-is_four : tie.Need-returns-then-is_four
+returns-then-is_four c =
     let x = c.before.before.before.before.before.before.before.before.before.before.args in
-    four-at x.s.now x.j true (omega arith) c.before.is-four.ensures c.if8.true
+    four-at x.s.now x.j true (omega arith) c.before.is_four.ensures c.if-is_four.true
 
-returns-9 : tie.Need-returns-9
-returns-9 c =
+returns-else-is_four : tie.Need-returns-else-is_four
+returns-else-is_four c =
     let x = c.before.before.before.before.before.before.before.before.before.before.args in
-    four-at x.s.now x.j false (omega arith) c.before.is-four.ensures c.if8.false
+    four-at x.s.now x.j false (omega arith) c.before.is_four.ensures c.if-is_four.false
 
-pub formed-at-spec : {M : Type 1} → statement M
-formed-at-spec =
+pub formed_at_spec : {M : Type 1} → statement M
+formed_at_spec =
     tie.close
     (tie.spec
-    shared-slice-read-a
-    returns
-    returns-2
-    add-byte-at
-    byte-at-requires
-    is-tail-requires
-    returns-3
-    returns-4
-    add-byte-at-2
-    byte-at-requires-2
-    add-byte-at-3
-    byte-at-requires-3
-    is-three-requires
-    returns-5
-    returns-6
-    sub-if7
-    returns-7
-    add-is-four
-    shared-slice-read-is-four
-    add-is-four-2
-    shared-slice-read-is-four-2
-    add-is-four-3
-    shared-slice-read-is-four-3
-    is-four-requires
-    returns-8
-    returns-9)
+    bounds-s-j
+    returns-then-a-lt128
+    returns-then-a-lt194
+    overflow_add-j
+    byte_at-requires
+    is_tail-requires
+    returns-then-is_tail
+    returns-else-is_tail
+    overflow_add-j-then-a-lt240
+    byte_at-requires-then-a-lt240
+    overflow_add-j-then-a-lt240-2
+    byte_at-requires-then-a-lt240-2
+    is_three-requires
+    returns-then-is_three
+    returns-else-is_three
+    overflow_sub-s
+    returns-then-s-j-lt4
+    overflow_add-j-2
+    bounds-s-j-2
+    overflow_add-j-3
+    bounds-s-j-3
+    overflow_add-j-4
+    bounds-s-j-4
+    is_four-requires
+    returns-then-is_four
+    returns-else-is_four)

@@ -6,22 +6,22 @@ use borrow.Author.Rules.{rules}
 use Rattle.utf8.proofs.is_second.Statement.{statement}
 use Rattle.utf8.proofs.is_second.Tie as tie
 
-returns : tie.Need-returns
-returns c = let x = c.before.args in λ y z. sym (four_first x.a x.b y z c.if1.true)
+returns-then-a-eq240 : tie.Need-returns-then-a-eq240
+returns-then-a-eq240 c = let x = c.before.args in λ y z. sym (four_first x.a x.b y z c.if-a-eq240.true)
 
-is-tail-requires : tie.Need-is-tail-requires
-is-tail-requires c κs = search rules
+is_tail-requires : tie.Need-is_tail-requires
+is_tail-requires c κs = search rules
 
-returns-2 : tie.Need-returns-2
-returns-2 c =
+returns-then-a-lt244 : tie.Need-returns-then-a-lt244
+returns-then-a-lt244 c =
     let x = c.before.before.before.args in
-    λ y z. rw c.is-tail.ensures (sym (four_other x.a x.b y z (omega (arith, c.before.before.if1.false)) c.before.if2.true))
+    λ y z. rw c.is_tail.ensures (sym (four_other x.a x.b y z (omega (arith, c.before.before.if-a-eq240.false)) c.before.if-a-lt244.true))
 
-returns-3 : tie.Need-returns-3
-returns-3 c = let x = c.before.before.before.args in λ y z. sym (four_last x.a x.b y z c.if3.true)
+returns-then-a-eq244 : tie.Need-returns-then-a-eq244
+returns-then-a-eq244 c = let x = c.before.before.before.args in λ y z. sym (four_last x.a x.b y z c.if-a-eq244.true)
 
-returns-4 : tie.Need-returns-4
-returns-4 c = let x = c.before.before.before.args in λ y z. sym (four_above x.a x.b y z (omega (arith, c.if3.false)))
+returns : tie.Need-returns
+returns c = let x = c.before.before.before.args in λ y z. sym (four_above x.a x.b y z (omega (arith, c.if-a-eq244.false)))
 
-pub is-second-spec : {M : Type 1} → statement M
-is-second-spec = tie.close (tie.spec returns is-tail-requires returns-2 returns-3 returns-4)
+pub is_second_spec : {M : Type 1} → statement M
+is_second_spec = tie.close (tie.spec returns-then-a-eq240 is_tail-requires returns-then-a-lt244 returns-then-a-eq244 returns)

@@ -6,33 +6,33 @@ use borrow.Author.Rules.{rules}
 use Rattle.utf8.proofs.is_three.Statement.{statement}
 use Rattle.utf8.proofs.is_three.Tie as tie
 
-one-more-requires : tie.Need-one-more-requires
-one-more-requires c κs = search rules
+one_more-requires : tie.Need-one_more-requires
+one_more-requires c κs = search rules
+
+returns-then-a-eq224 : tie.Need-returns-then-a-eq224
+returns-then-a-eq224 c = let x = c.before.before.args in c.one_more.ensures ∙ sym (three-first x.a x.b x.c c.before.if-a-eq224.true)
+
+one_more-requires-then-a-eq237 : tie.Need-one_more-requires-then-a-eq237
+one_more-requires-then-a-eq237 c κs = search rules
+
+returns-then-a-eq237 : tie.Need-returns-then-a-eq237
+returns-then-a-eq237 c = let x = c.before.before.before.args in c.one_more-then-a-eq237.ensures ∙ sym (three_surrogate x.a x.b x.c c.before.if-a-eq237.true)
+
+one_more-requires-2 : tie.Need-one_more-requires-2
+one_more-requires-2 c κs = search rules
 
 returns : tie.Need-returns
-returns c = let x = c.before.before.args in c.one_more.ensures ∙ sym (three-first x.a x.b x.c c.before.if1.true)
-
-one-more-requires-2 : tie.Need-one-more-requires-2
-one-more-requires-2 c κs = search rules
-
-returns-2 : tie.Need-returns-2
-returns-2 c = let x = c.before.before.before.args in c.one-more2.ensures ∙ sym (three_surrogate x.a x.b x.c c.before.if2.true)
-
-one-more-requires-3 : tie.Need-one-more-requires-3
-one-more-requires-3 c κs = search rules
-
-returns-3 : tie.Need-returns-3
-returns-3 c =
+returns c =
     let x = c.before.before.before.args in
-    c.one-more3.ensures ∙ sym (three_other x.a x.b x.c (omega (arith, c.before.before.if1.false)) (omega arith) c.before.if2.false)
+    c.one_more-2.ensures ∙ sym (three_other x.a x.b x.c (omega (arith, c.before.before.if-a-eq224.false)) (omega arith) c.before.if-a-eq237.false)
 
-pub is-three-spec : {M : Type 1} → statement M
-is-three-spec =
+pub is_three_spec : {M : Type 1} → statement M
+is_three_spec =
     tie.close
     (tie.spec
-    one-more-requires
-    returns
-    one-more-requires-2
-    returns-2
-    one-more-requires-3
-    returns-3)
+    one_more-requires
+    returns-then-a-eq224
+    one_more-requires-then-a-eq237
+    returns-then-a-eq237
+    one_more-requires-2
+    returns)

@@ -10,18 +10,18 @@ use Rattle.utf8.proofs.Pairs.{pass_lead, pass_other}
 use Rattle.utf8.proofs.pair_at.Statement.{statement}
 use Rattle.utf8.proofs.pair_at.Tie as tie
 
-returns : tie.Need-returns
-returns c = λ e.
+returns-then-is_tail : tie.Need-returns-then-is_tail
+returns-then-is_tail c = λ e.
     let x = c.before.before.before.before.before.args in
     let b = get_or x.s.now x.i 0 in
     let t = and_both (leb 0xC2 b) (ltb b 0xE0) e in
-    pass_lead x.s.now x.i (omega arith) (leb-true 0xC2 b t.0) (ltb-true b 0xE0 t.1) (sym c.before.is-tail.ensures ∙ c.if1.true)
+    pass_lead x.s.now x.i (omega arith) (leb-true 0xC2 b t.0) (ltb-true b 0xE0 t.1) (sym c.before.is_tail.ensures ∙ c.if-is_tail.true)
 
-returns-2 : tie.Need-returns-2
-returns-2 c = λ e.
+returns-else-is_tail : tie.Need-returns-else-is_tail
+returns-else-is_tail c = λ e.
     let x = c.before.before.before.before.before.args in
-    pass_other x.s.now x.i (omega arith) (omega (arith, ltb-true)) (sym c.before.is-tail.ensures ∙ c.if1.false)
+    pass_other x.s.now x.i (omega arith) (omega (arith, ltb-true)) (sym c.before.is_tail.ensures ∙ c.if-is_tail.false)
 
-pub pair-at-spec : {M : Type 1} → statement M
-pair-at-spec =
-    tie.close (tie.spec (λ c. search rules) (λ c. search rules) (λ c. search rules) (λ c κs. search rules) returns returns-2)
+pub pair_at_spec : {M : Type 1} → statement M
+pair_at_spec =
+    tie.close (tie.spec (λ c. search rules) (λ c. search rules) (λ c. search rules) (λ c κs. search rules) returns-then-is_tail returns-else-is_tail)

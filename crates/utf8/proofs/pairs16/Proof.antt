@@ -10,31 +10,31 @@ use Rattle.utf8.proofs.Pairs.{after-within}
 use Rattle.utf8.proofs.pairs16.Statement.{statement}
 use Rattle.utf8.proofs.pairs16.Tie as tie
 
-abbrev invariant-loop : tie.invariant-loop
-invariant-loop s i all₀ k₀ all k = (k ≤ i + 16) × (all ≡ true → Passes s (after_tail s i) (after_tail s k))
+abbrev invariant-loop-k : tie.invariant-loop-k
+invariant-loop-k s i all₀ k₀ all k = (k ≤ i + 16) × (all ≡ true → Passes s (after_tail s i) (after_tail s k))
 
-abbrev decreases-loop : tie.decreases-loop
-decreases-loop s i all₀ k₀ all k = (i + 16) - k
+abbrev decreases-loop-k : tie.decreases-loop-k
+decreases-loop-k s i all₀ k₀ all k = (i + 16) - k
 
-loop-holds : tie.Need-loop-init invariant-loop decreases-loop
-loop-holds c = let x = c.before.args in (omega arith, λ e. pass_none _ _ (after-within x.s.now x.i (omega arith)))
+loop-k-init : tie.Need-loop-k-init invariant-loop-k decreases-loop-k
+loop-k-init c = let x = c.before.args in (omega arith, λ e. pass_none _ _ (after-within x.s.now x.i (omega arith)))
 
-loop-again : tie.Need-loop-preserved invariant-loop decreases-loop
-loop-again c = (omega arith, pass_and _ _ _ _ _ _ c.before.before.loop.invariant.1 c.pair-at.ensures)
+loop-k-preserved : tie.Need-loop-k-preserved invariant-loop-k decreases-loop-k
+loop-k-preserved c = (omega arith, pass_and _ _ _ _ _ _ c.before.before.loop-k.invariant.1 c.pair_at-all.ensures)
 
-returns : tie.Need-returns invariant-loop decreases-loop
-returns c = let l = c.before in let e : l.loop.k ≡ l.before.before.args.i + 16 = omega arith in rw e at l.loop.invariant.1
+returns : tie.Need-returns invariant-loop-k decreases-loop-k
+returns c = let l = c.before in let e : l.loop-k.k ≡ l.before.before.args.i + 16 = omega arith in rw e at l.loop-k.invariant.1
 
-pub pairs16-spec : {M : Type 1} → statement M
-pairs16-spec =
+pub pairs16_spec : {M : Type 1} → statement M
+pairs16_spec =
     tie.close
     (tie.spec
-    invariant-loop
-    decreases-loop
-    loop-holds
+    invariant-loop-k
+    decreases-loop-k
+    loop-k-init
     (λ c. omega arith)
     (λ c κs. omega arith)
     (λ c. omega arith)
     (λ c. omega arith)
-    loop-again
+    loop-k-preserved
     returns)

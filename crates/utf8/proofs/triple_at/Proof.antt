@@ -6,10 +6,10 @@ use Rattle.utf8.proofs.triple_at.Statement.{statement}
 use Rattle.utf8.proofs.triple_at.Tie as tie
 
 returns : tie.Need-returns
-returns c = λ e. let x = c.before.before.before.before.before.before.before.args in pass_triple x.s.now x.i (omega arith) c.before.before.before.is-tail.ensures c.before.is-tail2.ensures c.takes-tail.ensures e
+returns c = λ e. let x = c.before.before.before.before.before.before.before.args in pass_triple x.s.now x.i (omega arith) c.before.before.before.is_tail-tail.ensures c.before.is_tail-more.ensures c.takes_tail.ensures e
 
-pub triple-at-spec : {M : Type 1} → statement M
-triple-at-spec =
+pub triple_at_spec : {M : Type 1} → statement M
+triple_at_spec =
     tie.close
     (tie.spec
     (λ c. search rules)

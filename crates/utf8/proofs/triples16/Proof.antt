@@ -10,31 +10,31 @@ use Rattle.utf8.proofs.Triples.{tails_within}
 use Rattle.utf8.proofs.triples16.Statement.{statement}
 use Rattle.utf8.proofs.triples16.Tie as tie
 
-abbrev invariant-loop : tie.invariant-loop
-invariant-loop s i all₀ k₀ all k = (k ≤ i + 16) × (all ≡ true → Passes s (after_tails s i) (after_tails s k))
+abbrev invariant-loop-k : tie.invariant-loop-k
+invariant-loop-k s i all₀ k₀ all k = (k ≤ i + 16) × (all ≡ true → Passes s (after_tails s i) (after_tails s k))
 
-abbrev decreases-loop : tie.decreases-loop
-decreases-loop s i all₀ k₀ all k = (i + 16) - k
+abbrev decreases-loop-k : tie.decreases-loop-k
+decreases-loop-k s i all₀ k₀ all k = (i + 16) - k
 
-loop-holds : tie.Need-loop-init invariant-loop decreases-loop
-loop-holds c = let x = c.before.args in (omega arith, λ e. pass_none _ _ (tails_within x.s.now x.i (omega arith)))
+loop-k-init : tie.Need-loop-k-init invariant-loop-k decreases-loop-k
+loop-k-init c = let x = c.before.args in (omega arith, λ e. pass_none _ _ (tails_within x.s.now x.i (omega arith)))
 
-loop-again : tie.Need-loop-preserved invariant-loop decreases-loop
-loop-again c = (omega arith, pass_and _ _ _ _ _ _ c.before.before.loop.invariant.1 c.triple-at.ensures)
+loop-k-preserved : tie.Need-loop-k-preserved invariant-loop-k decreases-loop-k
+loop-k-preserved c = (omega arith, pass_and _ _ _ _ _ _ c.before.before.loop-k.invariant.1 c.triple_at-all.ensures)
 
-returns : tie.Need-returns invariant-loop decreases-loop
-returns c = let l = c.before in let e : l.loop.k ≡ l.before.before.args.i + 16 = omega arith in rw e at l.loop.invariant.1
+returns : tie.Need-returns invariant-loop-k decreases-loop-k
+returns c = let l = c.before in let e : l.loop-k.k ≡ l.before.before.args.i + 16 = omega arith in rw e at l.loop-k.invariant.1
 
-pub triples16-spec : {M : Type 1} → statement M
-triples16-spec =
+pub triples16_spec : {M : Type 1} → statement M
+triples16_spec =
     tie.close
     (tie.spec
-    invariant-loop
-    decreases-loop
-    loop-holds
+    invariant-loop-k
+    decreases-loop-k
+    loop-k-init
     (λ c. omega arith)
     (λ c κs. omega arith)
     (λ c. omega arith)
     (λ c. omega arith)
-    loop-again
+    loop-k-preserved
     returns)

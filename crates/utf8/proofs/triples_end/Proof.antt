@@ -15,57 +15,57 @@ use Rattle.utf8.proofs.Triples.{tails_read}
 use Rattle.utf8.proofs.triples_end.Statement.{statement}
 use Rattle.utf8.proofs.triples_end.Tie as tie
 
-abbrev invariant-loop : tie.invariant-loop
-invariant-loop s j k₀ k = (k ≤ length s) × Passes s j (after_tails s k)
+abbrev invariant-loop-k : tie.invariant-loop-k
+invariant-loop-k s j k₀ k = (k ≤ length s) × Passes s j (after_tails s k)
 
-abbrev decreases-loop : tie.decreases-loop
-decreases-loop s j k₀ k = length s - k
+abbrev decreases-loop-k : tie.decreases-loop-k
+decreases-loop-k s j k₀ k = length s - k
 
-loop-holds : tie.Need-loop-init invariant-loop decreases-loop
-loop-holds c =
-    (omega arith, rw (tails_read _ _ false c.before.before.byte_at.ensures c.before.is-tail.ensures c.if1.false) (pass_none _ _ (omega arith)))
+loop-k-init : tie.Need-loop-k-init invariant-loop-k decreases-loop-k
+loop-k-init c =
+    (omega arith, rw (tails_read _ _ false c.before.before.byte_at.ensures c.before.is_tail.ensures c.if-is_tail.false) (pass_none _ _ (omega arith)))
 
-loop-again : tie.Need-loop-preserved invariant-loop decreases-loop
-loop-again c =
+loop-k-preserved : tie.Need-loop-k-preserved invariant-loop-k decreases-loop-k
+loop-k-preserved c =
     let p = c.before in
-    let e = (or_none p.before.ascii64.result (not p.triples16.result) c.if2.false).1 in
-    (omega arith, pass_on _ _ _ _ p.before.before.before.loop.invariant.1 (p.triples16.ensures (not-false _ e)))
+    let e = (or_none p.before.ascii64.result (not p.triples16.result) c.if-ascii64-triples16.false).1 in
+    (omega arith, pass_on _ _ _ _ p.before.before.before.loop-k.invariant.1 (p.triples16.ensures (not-false _ e)))
 
-returns-2 : tie.Need-returns-2 invariant-loop decreases-loop
-returns-2 c =
+returns-then-is_tail-3 : tie.Need-returns-then-is_tail-3 invariant-loop-k decreases-loop-k
+returns-then-is_tail-3 c =
     let f = c.before.before.before in
-    let p = rw (tails_read _ _ true f.before.before.byte-at2.ensures f.before.is-tail2.ensures f.if3.true) at f.before.before.before.before.loop.invariant.1 in
-    let q = rw (after_read _ _ true c.before.before.byte-at3.ensures c.before.is-tail3.ensures c.if4.true) at p in
-    let k = f.before.before.before.before.loop.k in
+    let p = rw (tails_read _ _ true f.before.before.byte_at-2.ensures f.before.is_tail-2.ensures f.if-is_tail-2.true) at f.before.before.before.before.loop-k.invariant.1 in
+    let q = rw (after_read _ _ true c.before.before.byte_at-then-is_tail-2.ensures c.before.is_tail-then-is_tail-2.ensures c.if-is_tail-3.true) at p in
+    let k = f.before.before.before.before.loop-k.k in
     let n : (k + 1) + 1 ≡ k + 2 = omega arith in
     rw n at q
 
-returns-3 : tie.Need-returns-3 invariant-loop decreases-loop
-returns-3 c =
+returns-else-is_tail-3 : tie.Need-returns-else-is_tail-3 invariant-loop-k decreases-loop-k
+returns-else-is_tail-3 c =
     let f = c.before.before.before in
-    let p = rw (tails_read _ _ true f.before.before.byte-at2.ensures f.before.is-tail2.ensures f.if3.true) at f.before.before.before.before.loop.invariant.1 in
-    rw (after_read _ _ false c.before.before.byte-at3.ensures c.before.is-tail3.ensures c.if4.false) at p
+    let p = rw (tails_read _ _ true f.before.before.byte_at-2.ensures f.before.is_tail-2.ensures f.if-is_tail-2.true) at f.before.before.before.before.loop-k.invariant.1 in
+    rw (after_read _ _ false c.before.before.byte_at-then-is_tail-2.ensures c.before.is_tail-then-is_tail-2.ensures c.if-is_tail-3.false) at p
 
-returns-4 : tie.Need-returns-4 invariant-loop decreases-loop
-returns-4 c =
-    rw (tails_read _ _ false c.before.before.byte-at2.ensures c.before.is-tail2.ensures c.if3.false) at c.before.before.before.before.loop.invariant.1
+returns : tie.Need-returns invariant-loop-k decreases-loop-k
+returns c =
+    rw (tails_read _ _ false c.before.before.byte_at-2.ensures c.before.is_tail-2.ensures c.if-is_tail-2.false) at c.before.before.before.before.loop-k.invariant.1
 
-pub triples-end-spec : {M : Type 1} → statement M
-triples-end-spec =
+pub triples_end_spec : {M : Type 1} → statement M
+triples_end_spec =
     tie.close
     (tie.spec
-    invariant-loop
-    decreases-loop
+    invariant-loop-k
+    decreases-loop-k
     (λ c κs. search rules)
     (λ c κs. search rules)
     (λ c. pass_none _ _ (omega arith))
-    loop-holds
+    loop-k-init
     (λ c. omega arith)
     (λ c κs. omega arith)
     (λ c κs. omega arith)
     (λ c. omega arith)
     (λ c. omega arith)
-    loop-again
+    loop-k-preserved
     (λ c κs. search rules)
     (λ c κs. search rules)
     (λ c. omega arith)
@@ -73,6 +73,6 @@ triples-end-spec =
     (λ c κs. search rules)
     (λ c. omega arith)
     (λ c. omega arith)
-    returns-2
-    returns-3
-    returns-4)
+    returns-then-is_tail-3
+    returns-else-is_tail-3
+    returns)

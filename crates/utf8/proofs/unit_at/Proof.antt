@@ -7,31 +7,31 @@ use borrow.Author.Rules.{rules}
 use Rattle.utf8.proofs.unit_at.Statement.{statement}
 use Rattle.utf8.proofs.unit_at.Tie as tie
 
+returns-then-i-s : tie.Need-returns-then-i-s
+returns-then-i-s c = let x = c.before.before.args in sym (unit_end x.s.now x.i c.if-i-s.true)
+
+formed_at-len-requires : tie.Need-formed_at-len-requires
+formed_at-len-requires c κs = search rules
+
+begun_at-requires : tie.Need-begun_at-requires
+begun_at-requires c κs = search rules
+
+returns-then-len-eq0 : tie.Need-returns-then-len-eq0
+returns-then-len-eq0 c =
+    let x = c.before.before.before.before.before.args in
+    let t = drop x.i x.s.now in
+    let l = length-drop x.i x.s.now in
+    cc (unit_broken t _ (omega arith) c.before.before.formed_at-len.ensures (omega arith))
+
+code_at-requires : tie.Need-code_at-requires
+code_at-requires c κs = search rules
+
 returns : tie.Need-returns
-returns c = let x = c.before.before.args in sym (unit_end x.s.now x.i c.if1.true)
-
-formed-at-requires : tie.Need-formed-at-requires
-formed-at-requires c κs = search rules
-
-begun-at-requires : tie.Need-begun-at-requires
-begun-at-requires c κs = search rules
-
-returns-2 : tie.Need-returns-2
-returns-2 c =
+returns c =
     let x = c.before.before.before.before.before.args in
     let t = drop x.i x.s.now in
     let l = length-drop x.i x.s.now in
-    cc (unit_broken t _ (omega arith) c.before.before.formed-at.ensures (omega arith))
+    cc (unit_char t _ (omega arith) c.before.before.formed_at-len.ensures (λ z. omega (arith, c.before.if-len-eq0.false)))
 
-code-at-requires : tie.Need-code-at-requires
-code-at-requires c κs = search rules
-
-returns-3 : tie.Need-returns-3
-returns-3 c =
-    let x = c.before.before.before.before.before.args in
-    let t = drop x.i x.s.now in
-    let l = length-drop x.i x.s.now in
-    cc (unit_char t _ (omega arith) c.before.before.formed-at.ensures (λ z. omega (arith, c.before.if2.false)))
-
-pub unit-at-spec : {M : Type 1} → statement M
-unit-at-spec = tie.close (tie.spec returns formed-at-requires begun-at-requires returns-2 code-at-requires returns-3)
+pub unit_at_spec : {M : Type 1} → statement M
+unit_at_spec = tie.close (tie.spec returns-then-i-s formed_at-len-requires begun_at-requires returns-then-len-eq0 code_at-requires returns)

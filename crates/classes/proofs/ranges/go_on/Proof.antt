@@ -6,41 +6,41 @@ use Rattle.classes.specs.Strides.{bound}
 use Rattle.classes.proofs.ranges.go_on.Statement.{statement}
 use Rattle.classes.proofs.ranges.go_on.Tie as tie
 
-abbrev invariant-loop : tie.invariant-loop
-invariant-loop index i by c count i₀ i' = (i' < count) × (bound index i' ≤ c)
+abbrev invariant-loop-i : tie.invariant-loop-i
+invariant-loop-i index i by c count i₀ i' = (i' < count) × (bound index i' ≤ c)
 
-abbrev decreases-loop : tie.decreases-loop
-decreases-loop index i by c count i₀ i' = count - i'
+abbrev decreases-loop-i : tie.decreases-loop-i
+decreases-loop-i index i by c count i₀ i' = count - i'
 
-loop-holds : tie.Need-loop-init invariant-loop decreases-loop
-loop-holds c = (c.requires.0, c.requires.3)
+loop-i-init : tie.Need-loop-i-init invariant-loop-i decreases-loop-i
+loop-i-init c = (c.requires.0, c.requires.3)
 
-returns : tie.Need-returns invariant-loop decreases-loop
-returns c = let l = c.before.before.before.loop.invariant in record { within = l.0; most = l.1; next = λ g. c.if1.true }
+returns-then-c-index : tie.Need-returns-then-c-index invariant-loop-i decreases-loop-i
+returns-then-c-index c = let l = c.before.before.before.loop-i.invariant in record { within = l.0; most = l.1; next = λ g. c.if-c-index.true }
 
-loop-less : tie.Need-loop-smaller invariant-loop decreases-loop
-loop-less c = omega (arith, c.before.before.before.before.requires.1)
+loop-i-smaller : tie.Need-loop-i-smaller invariant-loop-i decreases-loop-i
+loop-i-smaller c = omega (arith, c.before.before.before.before.requires.1)
 
-loop-again : tie.Need-loop-preserved invariant-loop decreases-loop
-loop-again c = (omega arith, c.if1.false)
+loop-i-preserved : tie.Need-loop-i-preserved invariant-loop-i decreases-loop-i
+loop-i-preserved c = (omega arith, c.if-c-index.false)
 
-returns-2 : tie.Need-returns-2 invariant-loop decreases-loop
-returns-2 c = let l = c.before.loop.invariant in record { within = l.0; most = l.1; next = λ g. absurd (omega arith) }
+returns : tie.Need-returns invariant-loop-i decreases-loop-i
+returns c = let l = c.before.loop-i.invariant in record { within = l.0; most = l.1; next = λ g. absurd (omega arith) }
 
-pub go-on-spec : {M : Type 1} → statement M
-go-on-spec =
+pub go_on_spec : {M : Type 1} → statement M
+go_on_spec =
     tie.close
     (tie.spec
-    invariant-loop
-    decreases-loop
+    invariant-loop-i
+    decreases-loop-i
     (λ c. search rules)
-    loop-holds
-    (λ c. search rules)
-    (λ c. search rules)
+    loop-i-init
     (λ c. search rules)
     (λ c. search rules)
-    returns
     (λ c. search rules)
-    loop-less
-    loop-again
-    returns-2)
+    (λ c. search rules)
+    returns-then-c-index
+    (λ c. search rules)
+    loop-i-smaller
+    loop-i-preserved
+    returns)

@@ -18,50 +18,50 @@ record Left (at end left k left' : ℕ) : Type 0 where
   to : k ≤ end
   same : total strides k + left' ≡ total strides at + left
 
-abbrev invariant-loop2 : tie.invariant-loop2
-invariant-loop2 at end left k₀ left₀ row stop rest₀ last k left' rest = Left at end left k left' × (k ≤ stop) × (rest ≡ packed (stop - k) strides k)
+abbrev invariant-loop-k-2 : tie.invariant-loop-k-2
+invariant-loop-k-2 at end left k₀ left₀ row stop rest₀ last k left' rest = Left at end left k left' × (k ≤ stop) × (rest ≡ packed (stop - k) strides k)
 
-abbrev decreases-loop2 : tie.decreases-loop2
-decreases-loop2 at end left k₀ left₀ row stop rest₀ last k left' rest = end - k
+abbrev decreases-loop-k-2 : tie.decreases-loop-k-2
+decreases-loop-k-2 at end left k₀ left₀ row stop rest₀ last k left' rest = end - k
 
-abbrev invariant-loop : tie.invariant-loop
-invariant-loop at end left k₀ left₀ k left' = Left at end left k left'
+abbrev invariant-loop-k : tie.invariant-loop-k
+invariant-loop-k at end left k₀ left₀ k left' = Left at end left k left'
 
-abbrev decreases-loop : tie.decreases-loop
-decreases-loop at end left k₀ left₀ k left' = end - k
+abbrev decreases-loop-k : tie.decreases-loop-k
+decreases-loop-k at end left k₀ left₀ k left' = end - k
 
-loop-holds : tie.Need-loop-init invariant-loop2 decreases-loop2 invariant-loop decreases-loop
-loop-holds c = record { from = omega arith; to = c.requires.0; same = omega arith }
+loop-k-init : tie.Need-loop-k-init invariant-loop-k-2 decreases-loop-k-2 invariant-loop-k decreases-loop-k
+loop-k-init c = record { from = omega arith; to = c.requires.0; same = omega arith }
 
-add-stop : tie.Need-overflow-add-stop invariant-loop2 decreases-loop2 invariant-loop decreases-loop
-add-stop c = omega (arith, c.before.before.before.requires.1)
+overflow_add-stop : tie.Need-overflow_add-stop invariant-loop-k-2 decreases-loop-k-2 invariant-loop-k decreases-loop-k
+overflow_add-stop c = omega (arith, c.before.before.before.requires.1)
 
-loop-less : tie.Need-loop-smaller invariant-loop2 decreases-loop2 invariant-loop decreases-loop
-loop-less c = omega arith
+loop-k-smaller-then-sum-left : tie.Need-loop-k-smaller-then-sum-left invariant-loop-k-2 decreases-loop-k-2 invariant-loop-k decreases-loop-k
+loop-k-smaller-then-sum-left c = omega arith
 
-loop-again : tie.Need-loop-preserved invariant-loop2 decreases-loop2 invariant-loop decreases-loop
-loop-again c =
-    let l = c.before.before.before.before.before.loop in
-    let s = rw c.before.before.before.eight-strides.ensures at c.before.row-sum.ensures in
-    record { from = omega (arith, l.invariant.from); to = omega (arith, c.before.before.if1.true); same = omega (arith, l.invariant.same, s, rest_sum l.k) }
+loop-k-preserved-then-sum-left : tie.Need-loop-k-preserved-then-sum-left invariant-loop-k-2 decreases-loop-k-2 invariant-loop-k decreases-loop-k
+loop-k-preserved-then-sum-left c =
+    let l = c.before.before.before.before.before.loop-k in
+    let s = rw c.before.before.before.eight_strides.ensures at c.before.row_sum-sum.ensures in
+    record { from = omega (arith, l.invariant.from); to = omega (arith, c.before.before.if-stop-end.true); same = omega (arith, l.invariant.same, s, rest_sum l.k) }
 
-loop2-holds : tie.Need-loop2-init invariant-loop2 decreases-loop2 invariant-loop decreases-loop
-loop2-holds c =
-    let l = c.before.before.before.before.loop in
-    (l.invariant, omega arith, rw c.before.before.eight-strides.ensures (row_from l.k))
+loop-k-2-init : tie.Need-loop-k-2-init invariant-loop-k-2 decreases-loop-k-2 invariant-loop-k decreases-loop-k
+loop-k-2-init c =
+    let l = c.before.before.before.before.loop-k in
+    (l.invariant, omega arith, rw c.before.before.eight_strides.ensures (row_from l.k))
 
-loop-less-2 : tie.Need-loop-smaller-2 invariant-loop2 decreases-loop2 invariant-loop decreases-loop
-loop-less-2 c = omega (arith, c.before.before.lesser.ensures, c.before.loop2.invariant.0.to)
+loop-k-smaller : tie.Need-loop-k-smaller invariant-loop-k-2 decreases-loop-k-2 invariant-loop-k decreases-loop-k
+loop-k-smaller c = omega (arith, c.before.before.lesser-last.ensures, c.before.loop-k-2.invariant.0.to)
 
-loop-again-2 : tie.Need-loop-preserved-2 invariant-loop2 decreases-loop2 invariant-loop decreases-loop
-loop-again-2 c = c.before.loop2.invariant.0
+loop-k-preserved : tie.Need-loop-k-preserved invariant-loop-k-2 decreases-loop-k-2 invariant-loop-k decreases-loop-k
+loop-k-preserved c = c.before.loop-k-2.invariant.0
 
-returns : tie.Need-returns invariant-loop2 decreases-loop2 invariant-loop decreases-loop
-returns c =
-    let l = c.before.before.loop2 in
-    let stop = c.before.before.before.before.before.before.before.loop.k / 8 * 8 + 8 in
-    let s = rw l.invariant.2 at c.if3.true in
-    let n = next_stride stop l.k (omega (arith, c.before.before.before.lesser.ensures)) in
+returns-then-left-stride : tie.Need-returns-then-left-stride invariant-loop-k-2 decreases-loop-k-2 invariant-loop-k decreases-loop-k
+returns-then-left-stride c =
+    let l = c.before.before.loop-k-2 in
+    let stop = c.before.before.before.before.before.before.before.loop-k.k / 8 * 8 + 8 in
+    let s = rw l.invariant.2 at c.if-left-stride.true in
+    let n = next_stride stop l.k (omega (arith, c.before.before.before.lesser-last.ensures)) in
     record {
       from = l.invariant.0.from;
       to = l.invariant.0.to;
@@ -69,19 +69,19 @@ returns c =
       next = λ g. omega (arith, l.invariant.0.same, s, n, total_stride strides l.k);
     }
 
-add-k : tie.Need-overflow-add-k invariant-loop2 decreases-loop2 invariant-loop decreases-loop
-add-k c = omega (arith, c.before.before.loop2.invariant.0.to, c.before.before.before.before.before.before.before.before.requires.1)
+overflow_add-k : tie.Need-overflow_add-k invariant-loop-k-2 decreases-loop-k-2 invariant-loop-k decreases-loop-k
+overflow_add-k c = omega (arith, c.before.before.loop-k-2.invariant.0.to, c.before.before.before.before.before.before.before.before.requires.1)
 
-loop2-less : tie.Need-loop2-smaller invariant-loop2 decreases-loop2 invariant-loop decreases-loop
-loop2-less c = omega (arith, c.before.before.before.lesser.ensures)
+loop-k-2-smaller : tie.Need-loop-k-2-smaller invariant-loop-k-2 decreases-loop-k-2 invariant-loop-k decreases-loop-k
+loop-k-2-smaller c = omega (arith, c.before.before.before.lesser-last.ensures)
 
-loop2-again : tie.Need-loop2-preserved invariant-loop2 decreases-loop2 invariant-loop decreases-loop
-loop2-again c =
-    let l = c.before.before.loop2 in
-    let stop = c.before.before.before.before.before.before.before.loop.k / 8 * 8 + 8 in
-    let e = c.before.before.before.lesser.ensures in
+loop-k-2-preserved : tie.Need-loop-k-2-preserved invariant-loop-k-2 decreases-loop-k-2 invariant-loop-k decreases-loop-k
+loop-k-2-preserved c =
+    let l = c.before.before.loop-k-2 in
+    let stop = c.before.before.before.before.before.before.before.loop-k.k / 8 * 8 + 8 in
+    let e = c.before.before.before.lesser-last.ensures in
     let u : l.k < stop = omega (arith, e) in
-    let s = rw l.invariant.2 at c.if3.false in (
+    let s = rw l.invariant.2 at c.if-left-stride.false in (
       record {
         from = omega (arith, l.invariant.0.from);
         to = omega (arith, e);
@@ -91,33 +91,33 @@ loop2-again c =
       rw l.invariant.2 (next_rest stop l.k u),
     )
 
-returns-2 : tie.Need-returns-2 invariant-loop2 decreases-loop2 invariant-loop decreases-loop
-returns-2 c = let l = c.before.loop in record { from = l.invariant.from; to = l.invariant.to; most = omega (arith, l.invariant.same); next = λ g. absurd (omega arith) }
+returns : tie.Need-returns invariant-loop-k-2 decreases-loop-k-2 invariant-loop-k decreases-loop-k
+returns c = let l = c.before.loop-k in record { from = l.invariant.from; to = l.invariant.to; most = omega (arith, l.invariant.same); next = λ g. absurd (omega arith) }
 
 pub pass_spec : {M : Type 1} → statement M
 pass_spec =
     tie.close
     (tie.spec
-    invariant-loop2
-    decreases-loop2
-    invariant-loop
-    decreases-loop
-    loop-holds
+    invariant-loop-k-2
+    decreases-loop-k-2
+    invariant-loop-k
+    decreases-loop-k
+    loop-k-init
     (λ c κs. search rules)
     (λ c. search rules)
     (λ c. omega arith)
     (λ c. search rules)
-    add-stop
+    overflow_add-stop
     (λ c κs. search rules)
-    loop-less
-    loop-again
+    loop-k-smaller-then-sum-left
+    loop-k-preserved-then-sum-left
     (λ c κs. search rules)
-    loop2-holds
-    loop-less-2
-    loop-again-2
+    loop-k-2-init
+    loop-k-smaller
+    loop-k-preserved
     (λ c. omega arith)
-    returns
-    add-k
-    loop2-less
-    loop2-again
-    returns-2)
+    returns-then-left-stride
+    overflow_add-k
+    loop-k-2-smaller
+    loop-k-2-preserved
+    returns)

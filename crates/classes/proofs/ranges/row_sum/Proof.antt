@@ -9,17 +9,17 @@ use Rattle.classes.proofs.ranges.row_sum.Tie as tie
 twos-most : (x : ℕ) → bit_and x 0x00FF00FF00FF00FF + bit_and (x / 256) 0x00FF00FF00FF00FF ≤ 0x01FE01FE01FE01FE
 twos-most x = omega (arith, and_le_r x 0x00FF00FF00FF00FF, and_le_r (x / 256) 0x00FF00FF00FF00FF)
 
-add-twos : tie.Need-add-twos
-add-twos c = omega (arith, twos-most c.args.row)
+overflow_add-twos : tie.Need-overflow_add-twos
+overflow_add-twos c = omega (arith, twos-most c.args.row)
 
-add-fours : tie.Need-add-fours
-add-fours c = omega (arith, twos-most c.args.row)
+overflow_add-fours : tie.Need-overflow_add-fours
+overflow_add-fours c = omega (arith, twos-most c.args.row)
 
-add-result : tie.Need-add-result
-add-result c = omega (arith, twos-most c.args.row)
+overflow_add-result : tie.Need-overflow_add-result
+overflow_add-result c = omega (arith, twos-most c.args.row)
 
 returns : tie.Need-returns
 returns c = bytes_sum c.args.row
 
-pub row-sum-spec : {M : Type 1} → statement M
-row-sum-spec = tie.close (tie.spec add-twos add-fours add-result (λ c. omega arith) returns)
+pub row_sum_spec : {M : Type 1} → statement M
+row_sum_spec = tie.close (tie.spec overflow_add-twos overflow_add-fours overflow_add-result (λ c. omega arith) returns)

@@ -13,8 +13,8 @@ returns : tie.Need-returns
 returns c =
     let p = c.before.before in
     let a = p.before.before.args in
-    subst (λ (z : Plan). Answered c.answer-in.result (outcome z (a.bytes / token_bytes))) p.plan-steps.ensures.0
-    (subst (λ (n : ℕ). Answered c.answer-in.result (outcome (plan_of p.plan-steps.result a.text.now) (a.bytes / n))) c.before.token-bytes.ensures c.answer-in.ensures)
+    subst (λ (z : Plan). Answered c.answer_in.result (outcome z (a.bytes / token_bytes))) p.plan_steps-plan.ensures.0
+    (subst (λ (n : ℕ). Answered c.answer_in.result (outcome (plan_of p.plan_steps-plan.result a.text.now) (a.bytes / n))) c.before.token_bytes.ensures c.answer_in.ensures)
 
-pub answer-steps-spec : {M : Type 1} → statement M
-answer-steps-spec = tie.close (tie.spec (λ c κs. search rules) (λ c κs. search rules) (λ c. search rules) (λ c κs. search rules) returns)
+pub answer_steps_spec : {M : Type 1} → statement M
+answer_steps_spec = tie.close (tie.spec (λ c κs. search rules) (λ c κs. search rules) (λ c. search rules) (λ c κs. search rules) returns)

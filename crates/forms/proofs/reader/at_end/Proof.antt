@@ -88,9 +88,9 @@ at-end-meets : {M : Type 1} {𝓤 : Ura M} (𝓛 : Logic 𝓤) → (mem : Memory
     → Meets 𝓛 at-end.signature (WpFn 𝓤 𝓛.H 𝓣.C 𝓣.Λ code.function) (at-end.spec 𝓛 mem run)
 at-end-meets {𝓤 = 𝓤} 𝓛 mem run 𝓣 = walk_Meets 𝓛 at-end.ended stayed (Goes-none 𝓛 1 B yes (λ κs x f. refl), tt) (at-end.clauses 𝓛 mem run) (WpFn 𝓤 𝓛.H 𝓣.C 𝓣.Λ code.function) (WpFn-mono 𝓤 𝓛.H 𝓛.laws 𝓣 code.function) (at-end-walks 𝓛 mem run 𝓣.C 𝓣.Λ)
 
-pub at-end-spec : {M : Type 1} → stated.statement M
+pub at_end_spec : {M : Type 1} → stated.statement M
 unfolding code.routine tables_of
-at-end-spec 𝓤 𝓛 𝓜 𝓡 =
+at_end_spec 𝓤 𝓛 𝓜 𝓡 =
     entered 𝓤 𝓛.H (triple_of 𝓛 at-end.signature (at-end.spec 𝓛 𝓜.mem 𝓡.run))
     (tables 𝓤 𝓛.H 𝓜 𝓡 code.env).C (tables 𝓤 𝓛.H 𝓜 𝓡 code.env).Λ #at-end code.function (code.unfolded 𝓤 𝓛.H 𝓜 𝓡)
     (at-end-meets 𝓛 𝓜.mem 𝓡.run (tables_of 𝓤 𝓛.H 𝓜 (tables 𝓤 𝓛.H 𝓜 𝓡 code.env)))

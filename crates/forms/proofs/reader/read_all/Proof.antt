@@ -298,7 +298,7 @@ module _ {M : Type 1} {𝓤 : Ura M} (𝓛 : Logic 𝓤) (mem : Memory → SProp
       total : left + i ≡ last
       read : Read text.now ys i at list
 
-    len : (st : St) → length st.list ≡ n
+    len : (st : St) → length st.list-1 ≡ n
     len st = st.read.held.len
 
     at-fits : (st : St) → st.at < 2 ^ 64
@@ -308,13 +308,13 @@ module _ {M : Type 1} {𝓤 : Ura M} (𝓛 : Logic 𝓤) (mem : Memory → SProp
     Ans = AnswerR.own_val answer (u ∷ [])
 
     abbrev ended_at : St → List (Item 𝓤)
-    ended_at st = ‵ (Lent st.list (length st.list)) ∷ ‵ Text ∷ ‵ (flft κ q) ∷ ‵ (flft κ' q') ∷ ‵ Ans ∷ []
+    ended_at st = ‵ (Lent st.list-1 (length st.list-1)) ∷ ‵ Text ∷ ‵ (flft κ q) ∷ ‵ (flft κ' q') ∷ ‵ Ans ∷ []
 
     exits : (st : St) → st.i ≡ last → ent 𝓤 (⋆ 𝓛 (ended_at st)) (Post u)
     exits st e =
-        qed 𝓛 (ended_at st) ∵ rewrite ! 0 (λ (m : ℕ). ‵ (Lent st.list m)) (len st) refl $
-        suffices ! _ (ends_at 𝓛 all.ended stayed (all.clauses 𝓛 mem run) (((κ, (κ', tt)), (q, (q', tt)), tt, a, vals), tt) u answer (tt, (st.list, tt)) (tt, (len st, tt))) $
-        says ! (read_done text.now ys answer said st.at st.list (subst (λ (k : ℕ). Read text.now ys k st.at st.list) e st.read)) $
+        qed 𝓛 (ended_at st) ∵ rewrite ! 0 (λ (m : ℕ). ‵ (Lent st.list-1 m)) (len st) refl $
+        suffices ! _ (ends_at 𝓛 all.ended stayed (all.clauses 𝓛 mem run) (((κ, (κ', tt)), (q, (q', tt)), tt, a, vals), tt) u answer (tt, (st.list-1, tt)) (tt, (len st, tt))) $
+        says ! (read_done text.now ys answer said st.at st.list-1 (subst (λ (k : ℕ). Read text.now ys k st.at st.list-1) e st.read)) $
         nothing ! $ move ! (4 ∷ 0 ∷ []) $ join ! $ move ! (3 ∷ 0 ∷ []) $ join ! $ frame ! $
         -- [the list; the text; the answer]
         nothing ! $ move ! (1 ∷ 0 ∷ []) $ fjoin ! $ move ! (1 ∷ 0 ∷ []) $ fjoin ! $ frame ! $ done !
@@ -336,7 +336,7 @@ module _ {M : Type 1} {𝓤 : Ura M} (𝓛 : Logic 𝓤) (mem : Memory → SProp
 
       -- 0 the list, 1 the text, 2 and 3 their tokens, 4 i, 5 reader, 6 found, 7 after, 8 the test, 9 a copy of reader, 10 the pointer, 11 the slice, 12 a copy of reader, 13 text, 14 list, 15 answer, 16 stop, 17 a number, 18 the result, 19 what the answer owns
       abbrev At : St → List (Item 𝓤)
-      At st = ‵ (Lent st.list (length st.list)) ∷ ‵ Text ∷ ‵ (flft κ q) ∷ ‵ (flft κ' q') ∷ ‵ (fat full_share word l₆ 0 (vint w64 st.i)) ∷ ‵ (fat full_share reader_ty l₅ 0 (vr st.at)) ∷ ‵ (froom stepped_ty l₇ 0) ∷ ‵ (froom word l₈ 0) ∷ ‵ (froom ty_bool l₁₀ 0) ∷ ‵ (froom reader_ty l₁₁ 0) ∷ ‵ (froom ptr_ty l₁₂ 0) ∷ ‵ (froom lent_ty l₁₃ 0) ∷ ‵ (froom reader_ty l₁₄ 0) ∷ Frame
+      At st = ‵ (Lent st.list-1 (length st.list-1)) ∷ ‵ Text ∷ ‵ (flft κ q) ∷ ‵ (flft κ' q') ∷ ‵ (fat full_share word l₆ 0 (vint w64 st.i)) ∷ ‵ (fat full_share reader_ty l₅ 0 (vr st.at)) ∷ ‵ (froom stepped_ty l₇ 0) ∷ ‵ (froom word l₈ 0) ∷ ‵ (froom ty_bool l₁₀ 0) ∷ ‵ (froom reader_ty l₁₁ 0) ∷ ‵ (froom ptr_ty l₁₂ 0) ∷ ‵ (froom lent_ty l₁₃ 0) ∷ ‵ (froom reader_ty l₁₄ 0) ∷ Frame
 
       -- when the loop is left, the rest of the body runs
       abbrev Left : Out → SProp 𝓤
@@ -363,18 +363,18 @@ module _ {M : Type 1} {𝓤 : Ura M} (𝓛 : Logic 𝓤) (mem : Memory → SProp
           assigns ! (agg ! (and_then ! (load ! (from ! (stop !)) (look ! 10 refl)) (and_then ! (load ! (from ! (fld ! refl (stop !))) (look_in ! 14 (sub ! 1 refl (whole !)))) (no_more !)))) (from ! (stop !)) (init ! 11 refl (tt, (tt, (record { fits = list-room.0 }, tt)))) $
           rewrite ! 11 (λ (m : ℕ). ‵ (fat full_share lent_ty l₁₃ 0 (vl m))) (sym (len st)) refl $
           lft_new ! tt (λ ν. move ! (3 ∷ 4 ∷ []) $
-          use2 𝓛 (later (some (λ (δ : GName). ‵ ((MutSlice (named 0) (ν ∷ []) u8).own_val (x δ st.list) (vl (length st.list) ∷ [])) ⊛ ‵ (LentAgain u8 κ' (ν ∷ []) q' γ b o δ st.list)))) (lends_again u8 κ' (ν ∷ []) q' γ b o 𝓛 (named 1) (named 0) st.list) $ await ! tt $ pick ! (λ δ. split ! $
-          move ! (2 ∷ 0 ∷ []) $ use2 𝓛 (raw ((PutAt 𝓛 mem run).pre (to-put st.list st.i r.token ν δ))) (goes-put st.list st.i r.token ν δ i-fits (token-of r v is) (turn-room text.now ys answer said st.i st.at st.list st.read small)) $
+          use2 𝓛 (later (some (λ (δ : GName). ‵ ((MutSlice (named 0) (ν ∷ []) u8).own_val (x δ st.list-1) (vl (length st.list-1) ∷ [])) ⊛ ‵ (LentAgain u8 κ' (ν ∷ []) q' γ b o δ st.list-1)))) (lends_again u8 κ' (ν ∷ []) q' γ b o 𝓛 (named 1) (named 0) st.list-1) $ await ! tt $ pick ! (λ δ. split ! $
+          move ! (2 ∷ 0 ∷ []) $ use2 𝓛 (raw ((PutAt 𝓛 mem run).pre (to-put st.list-1 st.i r.token ν δ))) (goes-put st.list-1 st.i r.token ν δ i-fits (token-of r v is) (turn-room text.now ys answer said st.i st.at st.list-1 st.read small)) $
           -- [0 what is asked; 1 what is kept of the list; 2 the text's lifetime's token; 3 the text; 4 i; …]
-          calls_at ! (fm_of 𝓤 H 𝓛.laws 𝓣) (PutAt 𝓛 mem run) known-put (to-put st.list st.i r.token ν δ) (and_then ! (load ! (from ! (stop !)) (look ! 11 refl)) (and_then ! (load ! (from ! (stop !)) (look ! 4 refl)) (and_then ! (load ! (from ! (fld ! refl (stop !))) (look_in ! 6 (sub ! 2 refl (whole !)))) (no_more !)))) (λ w.
-          use1 𝓛 (later (some (λ (p : ℕ). ((‵ (flft (ν ∷ []) full_share) ⊛ ‵ ftrue) ⊛ ‵ (usize.own_val p (w ∷ []))) ⊛ raw (ensured 𝓛 put-at.ended (put-at.clauses 𝓛 mem run) (ν ∷ [], tt) (put-args st.list st.i r.token δ) tt p)))) (id⊢ 𝓤 _) $ await ! tt $ pick ! (λ p.
-          split ! $ move ! (1 ∷ []) $ use1 𝓛 (some (λ (zs : List ℕ × (Unit {0} × (Unit {0} × Unit {0}))). ‵ (lasts put-at.ended (ν ∷ [], tt) (put-args st.list st.i r.token δ) zs) ⊛ raw (fact 𝓤 (PutSays st.list st.i r.token p zs.0)))) (id⊢ 𝓤 _) $ pick ! (λ zs.
-          split ! $ move ! (1 ∷ []) $ heard ! (PutSays st.list st.i r.token p zs.0) (λ put. fsplit ! $ fsplit ! $ move ! (1 ∷ []) $ feq_l ! (λ same.
+          calls_at ! (fm_of 𝓤 H 𝓛.laws 𝓣) (PutAt 𝓛 mem run) known-put (to-put st.list-1 st.i r.token ν δ) (and_then ! (load ! (from ! (stop !)) (look ! 11 refl)) (and_then ! (load ! (from ! (stop !)) (look ! 4 refl)) (and_then ! (load ! (from ! (fld ! refl (stop !))) (look_in ! 6 (sub ! 2 refl (whole !)))) (no_more !)))) (λ w.
+          use1 𝓛 (later (some (λ (p : ℕ). ((‵ (flft (ν ∷ []) full_share) ⊛ ‵ ftrue) ⊛ ‵ (usize.own_val p (w ∷ []))) ⊛ raw (ensured 𝓛 put-at.ended (put-at.clauses 𝓛 mem run) (ν ∷ [], tt) (put-args st.list-1 st.i r.token δ) tt p)))) (id⊢ 𝓤 _) $ await ! tt $ pick ! (λ p.
+          split ! $ move ! (1 ∷ []) $ use1 𝓛 (some (λ (zs : List ℕ × (Unit {0} × (Unit {0} × Unit {0}))). ‵ (lasts put-at.ended (ν ∷ [], tt) (put-args st.list-1 st.i r.token δ) zs) ⊛ raw (fact 𝓤 (PutSays st.list-1 st.i r.token p zs.0)))) (id⊢ 𝓤 _) $ pick ! (λ zs.
+          split ! $ move ! (1 ∷ []) $ heard ! (PutSays st.list-1 st.i r.token p zs.0) (λ put. fsplit ! $ fsplit ! $ move ! (1 ∷ []) $ feq_l ! (λ same.
           move ! (2 ∷ []) $ split ! $ move ! (1 ∷ []) $ peeks ! usize (Is usize) (shows 𝓛 usize) p (w ∷ []) (λ is₁.
           land ! (from ! (stop !)) (init ! 10 refl ((uint_Lawful 𝓛 w64).typed p _ is₁).0) $ rewrite ! 10 (λ (z : Val). ‵ (fat full_share word l₈ 0 z)) (ap only is₁.0 ∙ ap (vint w64) (put.0 ∙ one_more st.i)) refl $
           -- the lifetime is ended, and the list comes back
           move ! (1 ∷ []) $ split ! $ lft_end ! tt $ move ! (0 ∷ 5 ∷ 3 ∷ []) $
-          use3 𝓛 (later (‵ (Lent zs.0 (length st.list)) ⊛ ‵ (flft κ' q'))) (comes_back u8 κ' (ν ∷ []) q' γ b o 𝓛 (named 1) (named 0) st.list δ zs.0 (subst (Room u8) (sym (len st)) list-room) same) $ await ! tt $ split ! $
+          use3 𝓛 (later (‵ (Lent zs.0 (length st.list-1)) ⊛ ‵ (flft κ' q'))) (comes_back u8 κ' (ν ∷ []) q' γ b o 𝓛 (named 1) (named 0) st.list-1 δ zs.0 (subst (Room u8) (sym (len st)) list-room) same) $ await ! tt $ split ! $
           rewrite ! 0 (λ (m : ℕ). ‵ (Lent zs.0 m)) (sym same) refl $ move ! (2 ∷ []) $ drop ! $ move ! (2 ∷ []) $ drop ! $ move ! (2 ∷ []) $ drop ! $
           -- reader = moved(reader, found.cursor).  [0 the list; 1 its token; 2 the text's; 3 the text; 4 i; …]
           assigns ! (of_opd ! (load ! (from ! (stop !)) (look ! 5 refl))) (from ! (stop !)) (init ! 12 refl (typed_at st.at (at-fits st))) $
@@ -399,14 +399,14 @@ module _ {M : Type 1} {𝓤 : Ura M} (𝓛 : Logic 𝓤) (mem : Memory → SProp
           after-fits : suc st.i < 2 ^ 64
           after-fits = omega (arith, small, stop-fits)
 
-          one-read : (r : Stepped) → r ≡ stepped (step text.now st.at) → (z : List ℕ) → z ≡ sets st.list (st.i * token_bytes) (pack_token (token r.token.kind r.token.start r.token.end)) → St
+          one-read : (r : Stepped) → r ≡ stepped (step text.now st.at) → (z : List ℕ) → z ≡ sets st.list-1 (st.i * token_bytes) (pack_token (token r.token.kind r.token.start r.token.end)) → St
           one-read r e z f = record {
             left = last - suc st.i;
             i = suc st.i;
             at = r.cursor;
             list = z;
             total = omega (arith, small);
-            read = turn-read text.now ys answer said st.i st.at st.list st.read small r e z f;
+            read = turn-read text.now ys answer said st.i st.at st.list-1 st.read small r e z f;
           }
 
           fewer : suc (last - suc st.i) ≡ st.left
@@ -502,9 +502,9 @@ module _ {M : Type 1} {𝓤 : Ura M} (𝓛 : Logic 𝓤) (mem : Memory → SProp
   read-all-meets = walk_Meets 𝓛 all.ended stayed (Goes-none_slice 𝓛 2 (0 ∷ []) tt (plain (λ _. u8)) yes, (Goes-slice 𝓛 2 1 tt (plain (λ _. u8)), tt)) (all.clauses 𝓛 mem run)
       (WpFn 𝓤 H 𝓣.C 𝓣.Λ code.function) (WpFn-mono 𝓤 H 𝓛.laws 𝓣 code.function) read-all-walks
 
-pub read-all-spec : {M : Type 1} → stated.statement M
+pub read_all_spec : {M : Type 1} → stated.statement M
 unfolding code.routine tables_of
-read-all-spec 𝓤 𝓛 𝓜 𝓡 =
+read_all_spec 𝓤 𝓛 𝓜 𝓡 =
     entered 𝓤 𝓛.H (triple_of 𝓛 all.signature (all.spec 𝓛 𝓜.mem 𝓡.run))
     (tables 𝓤 𝓛.H 𝓜 𝓡 code.env).C (tables 𝓤 𝓛.H 𝓜 𝓡 code.env).Λ #read-all code.function (code.unfolded 𝓤 𝓛.H 𝓜 𝓡)
     (read-all-meets 𝓛 𝓜.mem 𝓡.run (tables_of 𝓤 𝓛.H 𝓜 (tables 𝓤 𝓛.H 𝓜 𝓡 code.env))

@@ -13,9 +13,9 @@ use Rattle.forms.specs.contracts.records.records_64.Key.{name as #values}
 use Rattle.forms.proofs.records.records_64.Statement as stated
 use Rattle.forms.proofs.records.records_64.Code as code
 
-pub records-64-spec : {M : Type 1} → stated.statement M
+pub records_64_spec : {M : Type 1} → stated.statement M
 unfolding code.routine tables_of
-records-64-spec 𝓤 𝓛 𝓜 𝓡 =
+records_64_spec 𝓤 𝓛 𝓜 𝓡 =
     let A = 𝓛.A in
     let 𝓣 = tables 𝓤 𝓛.H 𝓜 𝓡 code.env in
     entered 𝓤 𝓛.H (triple_of 𝓛 values.signature (values.spec 𝓛 𝓜.mem 𝓡.run)) 𝓣.C 𝓣.Λ #values code.function (code.unfolded 𝓤 𝓛.H 𝓜 𝓡)

@@ -561,9 +561,9 @@ module _ {M : Type 1} {𝓤 : Ura M} (𝓛 : Logic 𝓤) (mem : Memory → SProp
   store-meets = walk_Meets 𝓛 stores.ended stayed (Goes-none_slice 𝓛 2 (0 ∷ []) tt (plain (λ _. u8)) yes, (Goes-none 𝓛 2 (λ _. P.the_row) yes (λ κs x f. refl), (Goes-slice 𝓛 2 1 tt (plain (λ _. R)), tt))) (stores.clauses 𝓛 mem run)
       (WpFn 𝓤 H 𝓣.C 𝓣.Λ code.function) (WpFn-mono 𝓤 H 𝓛.laws 𝓣 code.function) store-walks
 
-pub store-records-spec : {M : Type 1} → stated.statement M
+pub store_records_spec : {M : Type 1} → stated.statement M
 unfolding code.routine tables_of
-store-records-spec 𝓤 𝓛 𝓜 𝓡 =
+store_records_spec 𝓤 𝓛 𝓜 𝓡 =
     let A = 𝓛.A in
     let 𝓣 = tables 𝓤 𝓛.H 𝓜 𝓡 code.env in
     entered 𝓤 𝓛.H (triple_of 𝓛 stores.signature (stores.spec 𝓛 𝓜.mem 𝓡.run)) 𝓣.C 𝓣.Λ #store code.function (code.unfolded 𝓤 𝓛.H 𝓜 𝓡)

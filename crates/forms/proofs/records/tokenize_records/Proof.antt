@@ -15,9 +15,9 @@ use Rattle.forms.specs.contracts.records.tokenize_records.Key.{name as #lists}
 use Rattle.forms.proofs.records.tokenize_records.Statement as stated
 use Rattle.forms.proofs.records.tokenize_records.Code as code
 
-pub tokenize-records-spec : {M : Type 1} → stated.statement M
+pub tokenize_records_spec : {M : Type 1} → stated.statement M
 unfolding code.routine tables_of
-tokenize-records-spec 𝓤 𝓛 𝓜 𝓡 =
+tokenize_records_spec 𝓤 𝓛 𝓜 𝓡 =
     let A = 𝓛.A in
     let 𝓣 = tables 𝓤 𝓛.H 𝓜 𝓡 code.env in
     entered 𝓤 𝓛.H (triple_of 𝓛 lists.signature (lists.spec 𝓛 𝓜.mem 𝓡.run)) 𝓣.C 𝓣.Λ #lists code.function (code.unfolded 𝓤 𝓛.H 𝓜 𝓡)

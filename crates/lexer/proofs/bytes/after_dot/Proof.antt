@@ -4,8 +4,8 @@ use Rattle.rules.proofs.NumberBytes.{dot_before}
 use Rattle.lexer.proofs.bytes.after_dot.Statement.{statement}
 use Rattle.lexer.proofs.bytes.after_dot.Tie as tie
 
-returns-2 : tie.Need-returns-2
-returns-2 c = let a = c.before.before.args in dot_before a.text.now a.start c.before.if1.false
+returns : tie.Need-returns
+returns c = let a = c.before.before.args in dot_before a.text.now a.start c.before.if-start-eq0.false
 
-pub after-dot-spec : {M : Type 1} → statement M
-after-dot-spec = tie.close (tie.spec (λ c. search rules) (λ c. search rules) (λ c. search rules) returns-2)
+pub after_dot_spec : {M : Type 1} → statement M
+after_dot_spec = tie.close (tie.spec (λ c. search rules) (λ c. search rules) (λ c. search rules) returns)

@@ -2,11 +2,11 @@
 use Rattle.lexer.proofs.bytes.is_exponent_mark.Statement.{statement}
 use Rattle.lexer.proofs.bytes.is_exponent_mark.Tie as tie
 
-returns : tie.Need-returns
-returns c = rw c.if1.true
+returns-then-hex : tie.Need-returns-then-hex
+returns-then-hex c = rw c.if-hex.true
 
-returns-2 : tie.Need-returns-2
-returns-2 c = rw c.if1.false
+returns-else-hex : tie.Need-returns-else-hex
+returns-else-hex c = rw c.if-hex.false
 
-pub is-exponent-mark-spec : {M : Type 1} → statement M
-is-exponent-mark-spec = tie.close (tie.spec returns returns-2)
+pub is_exponent_mark_spec : {M : Type 1} → statement M
+is_exponent_mark_spec = tie.close (tie.spec returns-then-hex returns-else-hex)

@@ -6,5 +6,5 @@ use Rattle.lexer.proofs.bytes.is_hex_digit.Tie as tie
 returns : tie.Need-returns
 returns c = rw c.is_digit.ensures
 
-pub is-hex-digit-spec : {M : Type 1} → statement M
-is-hex-digit-spec = tie.close (tie.spec (λ c κs. search rules) returns)
+pub is_hex_digit_spec : {M : Type 1} → statement M
+is_hex_digit_spec = tie.close (tie.spec (λ c κs. search rules) returns)

@@ -3,11 +3,11 @@ use borrow.Author.Rules.{rules}
 use Rattle.lexer.proofs.bytes.is_radix_digit.Statement.{statement}
 use Rattle.lexer.proofs.bytes.is_radix_digit.Tie as tie
 
-returns : tie.Need-returns
-returns c = rw c.before.if1.true c.is-hex-digit.ensures
+returns-then-hex : tie.Need-returns-then-hex
+returns-then-hex c = rw c.before.if-hex.true c.is_hex_digit.ensures
 
-returns-2 : tie.Need-returns-2
-returns-2 c = rw c.before.if1.false c.is_digit.ensures
+returns-else-hex : tie.Need-returns-else-hex
+returns-else-hex c = rw c.before.if-hex.false c.is_digit.ensures
 
-pub is-radix-digit-spec : {M : Type 1} → statement M
-is-radix-digit-spec = tie.close (tie.spec (λ c κs. search rules) (λ c κs. search rules) returns returns-2)
+pub is_radix_digit_spec : {M : Type 1} → statement M
+is_radix_digit_spec = tie.close (tie.spec (λ c κs. search rules) (λ c κs. search rules) returns-then-hex returns-else-hex)

@@ -3,5 +3,5 @@ use borrow.Author.Rules.{rules}
 use Rattle.lexer.proofs.bytes.is_word_byte.Statement.{statement}
 use Rattle.lexer.proofs.bytes.is_word_byte.Tie as tie
 
-pub is-word-byte-spec : {M : Type 1} → statement M
-is-word-byte-spec = tie.close (tie.spec (λ c κs. search rules) (λ c. search rules) (λ c. search rules) (λ c. word_bit c.before.args.dollar c.before.args.b _ c.word-mask.ensures))
+pub is_word_byte_spec : {M : Type 1} → statement M
+is_word_byte_spec = tie.close (tie.spec (λ c κs. search rules) (λ c. search rules) (λ c. search rules) (λ c. word_bit c.before.args.dollar c.before.args.b _ c.word_mask-mask.ensures))

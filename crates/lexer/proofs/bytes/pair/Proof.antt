@@ -9,7 +9,7 @@ use Rattle.lexer.proofs.bytes.pair.Tie as tie
 returns : tie.Need-returns
 returns c =
     let a = c.before.before.before.before.before.before.before.before.before.before.args in
-    (ap₂ bit_or (ap₂ bit_or (ap₂ bit_or (ap₂ bit_or (ap₂ bit_or (ap₂ bit_or (ap₂ bit_or (ap₂ bit_or (ap₂ bit_or c.before.before.before.before.before.before.before.before.before.kind-if.ensures c.before.before.before.before.before.before.before.before.kind-if2.ensures) c.before.before.before.before.before.before.before.kind-if3.ensures) c.before.before.before.before.before.before.kind-if4.ensures) c.before.before.before.before.before.kind-if5.ensures) c.before.before.before.before.kind-if6.ensures) c.before.before.before.kind-if7.ensures) c.before.before.kind-if8.ensures) c.before.kind-if9.ensures) c.kind-if10.ensures)
+    (ap₂ bit_or (ap₂ bit_or (ap₂ bit_or (ap₂ bit_or (ap₂ bit_or (ap₂ bit_or (ap₂ bit_or (ap₂ bit_or (ap₂ bit_or c.before.before.before.before.before.before.before.before.before.kind_if.ensures c.before.before.before.before.before.before.before.before.kind_if-2.ensures) c.before.before.before.before.before.before.before.kind_if-3.ensures) c.before.before.before.before.before.before.kind_if-4.ensures) c.before.before.before.before.before.kind_if-5.ensures) c.before.before.before.before.kind_if-6.ensures) c.before.before.before.kind_if-7.ensures) c.before.before.kind_if-8.ensures) c.before.kind_if-9.ensures) c.kind_if-10.ensures)
     ∙ joined_is a.b a.a
 
 pub pair_spec : {M : Type 1} → statement M

@@ -12,5 +12,5 @@ use Rattle.lexer.proofs.bytes.skip_digits.Tie as tie
 returns : tie.Need-returns
 returns c = let a = c.before.before.args in skips_as (passes false figures) digit inside-figures a.text.now a.at c.skip.result c.skip.ensures
 
-pub skip-digits-spec : {M : Type 1} → statement M
-skip-digits-spec = tie.close (tie.spec (λ c κs. search rules) returns)
+pub skip_digits_spec : {M : Type 1} → statement M
+skip_digits_spec = tie.close (tie.spec (λ c κs. search rules) returns)

@@ -11,5 +11,5 @@ use Rattle.lexer.proofs.bytes.skip_spaces.Tie as tie
 returns : tie.Need-returns
 returns c = let a = c.before.before.args in skips_as _ (λ b. ltb b 0x80 && white_space b) inside_spaces a.text.now a.at c.skip.result c.skip.ensures
 
-pub skip-spaces-spec : {M : Type 1} → statement M
-skip-spaces-spec = tie.close (tie.spec (λ c κs. search rules) returns)
+pub skip_spaces_spec : {M : Type 1} → statement M
+skip_spaces_spec = tie.close (tie.spec (λ c κs. search rules) returns)

@@ -16,23 +16,23 @@ either : (x y : Bool) → (x ≡ true) ⊎ (y ≡ true) → (not x && not y) ≡
 either x y (inl e) = rw e
 either x y (inr e) = rw e (and-false (not x))
 
-returns : tie.Need-returns
-returns c =
+returns-then-x-a : tie.Need-returns-then-x-a
+returns-then-x-a c =
     let g = c.before.before.before in
     let s = g.args.text.now in
     let i = g.args.at in
     let a = g.args.a in
     let b = g.args.b in
-    let x = c.before.byte_at.result in
+    let x = c.before.byte_at-x.result in
     skips_none _ s i g.requires.0
-    (ap (λ n. not (eqb n a) && not (eqb n b)) (sym c.before.byte_at.ensures) ∙ either (eqb x a) (eqb x b) (or_cases (eqb x a) (eqb x b) c.if1.true))
+    (ap (λ n. not (eqb n a) && not (eqb n b)) (sym c.before.byte_at-x.ensures) ∙ either (eqb x a) (eqb x b) (or_cases (eqb x a) (eqb x b) c.if-x-a.true))
 
-returns-2 : tie.Need-returns-2
-returns-2 c =
+returns : tie.Need-returns
+returns c =
     let g = c.before.before.before.before in
     let a = g.args.a in
     let b = g.args.b in
     skips_as _ (λ x. not (eqb x a) && not (eqb x b)) (λ x. outside-two a g.requires.1 x b g.requires.2 g.requires.3) g.args.text.now g.args.at c.skip.result c.skip.ensures
 
-pub skip-to-either-spec : {M : Type 1} → statement M
-skip-to-either-spec = tie.close (tie.spec (λ c κs. search rules) returns (λ c. search rules) (λ c. search rules) (λ c κs. search rules) returns-2)
+pub skip_to_either_spec : {M : Type 1} → statement M
+skip_to_either_spec = tie.close (tie.spec (λ c κs. search rules) returns-then-x-a (λ c. search rules) (λ c. search rules) (λ c κs. search rules) returns)

@@ -12,5 +12,5 @@ use Rattle.lexer.proofs.bytes.skip_words.Tie as tie
 returns : tie.Need-returns
 returns c = let a = c.before.before.args in skips_as (passes false words) ascii_word inside_words a.text.now a.at c.skip.result c.skip.ensures
 
-pub skip-words-spec : {M : Type 1} → statement M
-skip-words-spec = tie.close (tie.spec (λ c κs. search rules) returns)
+pub skip_words_spec : {M : Type 1} → statement M
+skip_words_spec = tie.close (tie.spec (λ c κs. search rules) returns)

@@ -15,11 +15,11 @@ use Rattle.lexer.specs.declared.token.Lexed.{Lexed}
 use Rattle.lexer.proofs.fast.fast_operator.Statement.{statement}
 use Rattle.lexer.proofs.fast.fast_operator.Tie as tie
 
-returns : tie.Need-returns
-returns c = λ n. absurd (n (ap (λ (l : Lexed). l.kind) c.undecided.ensures))
+returns-then-is_spaceship-a : tie.Need-returns-then-is_spaceship-a
+returns-then-is_spaceship-a c = λ n. absurd (n (ap (λ (l : Lexed). l.kind) c.undecided.ensures))
 
 -- what the first test leaves
-module _ (c : tie.Else1) where
+module _ (c : tie.Else-is_spaceship-a) where
   abbrev st : tie.Start
   st = c.before.before.before.before.before.before
 
@@ -35,26 +35,26 @@ module _ (c : tie.Else1) where
   inside : i < length s
   inside = omega (arith, st.pre.0)
 
-  left : (((c.before.is-spaceship.result || two (get_or s i 0) (get_or s (i + 1) 0) dash dash) ≡ false) × (two (get_or s i 0) (get_or s (i + 1) 0) slash star ≡ false))
-  left = neither (c.before.is-spaceship.result || two (get_or s i 0) (get_or s (i + 1) 0) dash dash) (two (get_or s i 0) (get_or s (i + 1) 0) slash star) c.if1.false
+  left : (((c.before.is_spaceship.result || two (get_or s i 0) (get_or s (i + 1) 0) dash dash) ≡ false) × (two (get_or s i 0) (get_or s (i + 1) 0) slash star ≡ false))
+  left = neither (c.before.is_spaceship.result || two (get_or s i 0) (get_or s (i + 1) 0) dash dash) (two (get_or s i 0) (get_or s (i + 1) 0) slash star) c.if-is_spaceship-a.false
 
   ship : spaceship (get_or s i 0) (get_or s (i + 1) 0) (get_or s (i + 2) 0) ≡ false
-  ship = sym c.before.is-spaceship.ensures ∙ (neither c.before.is-spaceship.result (two (get_or s i 0) (get_or s (i + 1) 0) dash dash) left.0).0
+  ship = sym c.before.is_spaceship.ensures ∙ (neither c.before.is_spaceship.result (two (get_or s i 0) (get_or s (i + 1) 0) dash dash) left.0).0
 
   dashes : two (get_or s i 0) (get_or s (i + 1) 0) dash dash ≡ false
-  dashes = (neither c.before.is-spaceship.result (two (get_or s i 0) (get_or s (i + 1) 0) dash dash) left.0).1
+  dashes = (neither c.before.is_spaceship.result (two (get_or s i 0) (get_or s (i + 1) 0) dash dash) left.0).1
 
   opens : two (get_or s i 0) (get_or s (i + 1) 0) slash star ≡ false
   opens = left.1
 
-returns-2 : tie.Need-returns-2
-returns-2 c = λ n. let t = c.before.before in told-pair (d t) (s t) (i t) (inside t) (st t).requires.1 (ship t) (dashes t) (opens t) _ c.before.pair.ensures c.if2.true
+returns-then-p-ne-NoToken : tie.Need-returns-then-p-ne-NoToken
+returns-then-p-ne-NoToken c = λ n. let t = c.before.before in told-pair (d t) (s t) (i t) (inside t) (st t).requires.1 (ship t) (dashes t) (opens t) _ c.before.pair-p.ensures c.if-p-ne-NoToken.true
 
-returns-3 : tie.Need-returns-3
-returns-3 c = λ n. let t = c.before.before in told-single (d t) (s t) (i t) (inside t) (st t).requires.1 (ship t) (dashes t) (opens t) _ c.before.pair.ensures c.if2.false _ (st t).requires.2
+returns : tie.Need-returns
+returns c = λ n. let t = c.before.before in told-single (d t) (s t) (i t) (inside t) (st t).requires.1 (ship t) (dashes t) (opens t) _ c.before.pair-p.ensures c.if-p-ne-NoToken.false _ (st t).requires.2
 
-pub fast-operator-spec : {M : Type 1} → statement M
-fast-operator-spec =
+pub fast_operator_spec : {M : Type 1} → statement M
+fast_operator_spec =
     tie.close
     (tie.spec
     (λ c. search rules)
@@ -64,9 +64,9 @@ fast-operator-spec =
     (λ c. search rules)
     (λ c κs. search rules)
     (λ c κs. search rules)
-    returns
+    returns-then-is_spaceship-a
     (λ c κs. search rules)
     (λ c. search rules)
-    returns-2
+    returns-then-p-ne-NoToken
     (λ c. search rules)
-    returns-3)
+    returns)

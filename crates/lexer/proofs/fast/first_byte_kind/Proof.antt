@@ -10,7 +10,7 @@ use Rattle.lexer.proofs.fast.first_byte_kind.Tie as tie
 returns : tie.Need-returns
 returns c =
     let a = c.before.args.a in
-    ap (λ (n : ℕ). n / 2 ^ (a % 8 * 8) % 256) c.first-byte-row.ensures ∙ row_byte a (omega arith)
+    ap (λ (n : ℕ). n / 2 ^ (a % 8 * 8) % 256) c.first_byte_row.ensures ∙ row_byte a (omega arith)
 
-pub first-byte-kind-spec : {M : Type 1} → statement M
-first-byte-kind-spec = tie.close (tie.spec (λ c κs. search rules) (λ c. search rules) (λ c. search rules) (λ c. search rules) (λ c. search rules) returns)
+pub first_byte_kind_spec : {M : Type 1} → statement M
+first_byte_kind_spec = tie.close (tie.spec (λ c κs. search rules) (λ c. search rules) (λ c. search rules) (λ c. search rules) (λ c. search rules) returns)

@@ -29,29 +29,29 @@ module _ (st : tie.Start) where
   one : run white_space (chars (drop (i + 1) s)) ≡ 0 → 1 ≡ run white_space (chars (drop i s))
   one z = omega (arith, z, byte_more white_space s i (omega (arith, st.pre.0)) true (sym (both (ltb (get_or s i 0) 0x80) (white_space (get_or s i 0)) (lt-ltb (get_or s i 0) 0x80 st.pre.1) st.pre.2)) refl)
 
+returns-then-b-lt128 : tie.Need-returns-then-b-lt128
+returns-then-b-lt128 c = λ e.
+    let st = c.before.before.before.before in
+    let r = c.is_ascii_space in
+    one st (byte_stop white_space (s st) (i st + 1) (omega (arith, st.requires.0)) r.result r.ensures c.before.if-b-lt128.true (not-true _ e))
+
 returns : tie.Need-returns
 returns c = λ e.
-    let st = c.before.before.before.before in
-    let r = c.is-ascii-space in
-    one st (byte_stop white_space (s st) (i st + 1) (omega (arith, st.requires.0)) r.result r.ensures c.before.if1.true (not-true _ e))
-
-returns-2 : tie.Need-returns-2
-returns-2 c = λ e.
     let st = c.before.before.before.before.before in
-    let u : Unruled (s st) (i st + 1) c.other-len.result = subst (λ (t : List ℕ). Unruled t (i st + 1) c.other-len.result) (sliced (s st)) (c.other-len.ensures (λ z. clash e (ap (λ (n : ℕ). not (eqb n 0)) z))) in
+    let u : Unruled (s st) (i st + 1) c.other_len.result = subst (λ (t : List ℕ). Unruled t (i st + 1) c.other_len.result) (sliced (s st)) (c.other_len.ensures (λ z. clash e (ap (λ (n : ℕ). not (eqb n 0)) z))) in
     one st (char_stop white_space (s st) (i st + 1) (omega (arith, st.requires.0)) u.space)
 
-pub is-short-space-spec : {M : Type 1} → statement M
-is-short-space-spec =
+pub is_short_space_spec : {M : Type 1} → statement M
+is_short_space_spec =
     tie.close
     (tie.spec
     (λ c. search rules)
     (λ c. search rules)
     (λ c κs. search rules)
-    returns
+    returns-then-b-lt128
     (λ c. search rules)
     (λ c. search rules)
     (λ c. search rules)
     (λ c. search rules)
     (λ c κs. omega (arith, c.before.before.before.before.requires.0, ap length (sliced c.before.before.before.before.args.text.now)))
-    returns-2)
+    returns)

@@ -11,16 +11,16 @@ use Rattle.lexer.proofs.Classes.{below}
 use Rattle.lexer.proofs.fast.number_if_ended.Statement.{statement}
 use Rattle.lexer.proofs.fast.number_if_ended.Tie as tie
 
-returns : tie.Need-returns
-returns c = λ n.
-    let w = c.before.is-word-byte in
+returns-then-b-is_word_byte : tie.Need-returns-then-b-is_word_byte
+returns-then-b-is_word_byte c = λ n.
+    let w = c.before.is_word_byte in
     let b = c.before.before.args.b in
-    let t = and_both (ltb b 0x80) (not w.result) c.if1.true in
+    let t = and_both (ltb b 0x80) (not w.result) c.if-b-is_word_byte.true in
     let l = ltb-true b 0x80 t.0 in
     (refl, l, below word_character b l w.ensures ∙ not-true _ t.1)
 
-returns-2 : tie.Need-returns-2
-returns-2 c = λ n. absurd (n (ap (λ (l : Lexed). l.kind) c.undecided.ensures))
+returns : tie.Need-returns
+returns c = λ n. absurd (n (ap (λ (l : Lexed). l.kind) c.undecided.ensures))
 
-pub number-if-ended-spec : {M : Type 1} → statement M
-number-if-ended-spec = tie.close (tie.spec (λ c κs. search rules) returns (λ c κs. search rules) returns-2)
+pub number_if_ended_spec : {M : Type 1} → statement M
+number_if_ended_spec = tie.close (tie.spec (λ c κs. search rules) returns-then-b-is_word_byte (λ c κs. search rules) returns)

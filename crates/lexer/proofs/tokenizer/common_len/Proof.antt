@@ -13,21 +13,21 @@ use Rattle.lexer.proofs.Runs.{step-two}
 use Rattle.lexer.proofs.tokenizer.common_len.Statement.{statement}
 use Rattle.lexer.proofs.tokenizer.common_len.Tie as tie
 
-returns : tie.Need-returns
-returns c z d =
+returns-then-is_common_letter : tie.Need-returns-then-is_common_letter
+returns-then-is_common_letter c z d =
     let if1 = c.before.before in
-    let tail = if1.before.is-tail in
-    let second = if1.before.before.byte-at2 in
-    let first = if1.before.before.before.byte_at in
+    let tail = if1.before.is_tail in
+    let second = if1.before.before.byte_at-b in
+    let first = if1.before.before.before.byte_at-a in
     let st = if1.before.before.before.before.before in
-    let t = and_both (leb 0xC2 first.result && leb first.result 0xDF) tail.result if1.if1.true in
+    let t = and_both (leb 0xC2 first.result && leb first.result 0xDF) tail.result if1.if-a-is_tail.true in
     let u = and_both (leb 0xC2 first.result) (leb first.result 0xDF) t.0 in
     step-two (word_with d) st.args.text.now st.args.at st.requires (omega (arith, first.ensures, leb-true 0xC2 first.result u.0)) (omega (arith, first.ensures, leb-true first.result 0xDF u.1))
     (ap utf8_tail (sym second.ensures) ∙ sym tail.ensures ∙ t.1)
-    (rw (first.ensures, second.ensures) at (alphabetic_word d _ (c.before.is-common-letter.ensures c.if2.true)))
+    (rw (first.ensures, second.ensures) at (alphabetic_word d _ (c.before.is_common_letter.ensures c.if-is_common_letter.true)))
 
-pub common-len-spec : {M : Type 1} → statement M
-common-len-spec =
+pub common_len_spec : {M : Type 1} → statement M
+common_len_spec =
     tie.close
     (tie.spec
     (λ c κs. search rules)
@@ -39,6 +39,6 @@ common-len-spec =
     (λ c. search rules)
     (λ c. search rules)
     (λ c κs. search rules)
-    returns
+    returns-then-is_common_letter
     (λ c. search rules)
     (λ c. search rules))

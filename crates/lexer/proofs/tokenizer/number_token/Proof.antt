@@ -5,5 +5,5 @@ use Rattle.lexer.specs.Ends.{joined}
 use Rattle.lexer.proofs.tokenizer.number_token.Statement.{statement}
 use Rattle.lexer.proofs.tokenizer.number_token.Tie as tie
 
-pub number-token-spec : {M : Type 1} → statement M
-number-token-spec = tie.close (tie.spec (λ c κs. search rules) (λ c κs. search rules) (λ c. c.join.ensures ∙ ap joined c.before.read_number.ensures))
+pub number_token_spec : {M : Type 1} → statement M
+number_token_spec = tie.close (tie.spec (λ c κs. search rules) (λ c κs. search rules) (λ c. c.join.ensures ∙ ap joined c.before.read_number-l.ensures))

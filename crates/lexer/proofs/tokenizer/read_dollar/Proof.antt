@@ -9,58 +9,58 @@ use Rattle.lexer.proofs.HereDocs.{no_tag, tag_closed, opens, not_found, here_fou
 use Rattle.lexer.proofs.tokenizer.read_dollar.Statement.{statement}
 use Rattle.lexer.proofs.tokenizer.read_dollar.Tie as tie
 
-returns : tie.Need-returns
-returns c =
+returns-then-byte_at-ne36 : tie.Need-returns-then-byte_at-ne36
+returns-then-byte_at-ne36 c =
     let g = c.before.before.before.before in
-    no_tag g.args.text.now g.args.start c.before.before.tag-end.result c.before.before.tag-end.ensures (λ e. c.if1.true (c.before.byte_at.ensures ∙ e))
+    no_tag g.args.text.now g.args.start c.before.before.tag_end-tag.result c.before.before.tag_end-tag.ensures (λ e. c.if-byte_at-ne36.true (c.before.byte_at.ensures ∙ e))
 
 -- the tag is closed
-closed : (c : tie.Else1) → get_or c.before.before.before.before.args.text.now c.before.before.tag-end.result 0 ≡ dollar
-closed c = sym c.before.byte_at.ensures ∙ c.if1.false
+closed : (c : tie.Else-byte_at-ne36) → get_or c.before.before.before.before.args.text.now c.before.before.tag_end-tag.result 0 ≡ dollar
+closed c = sym c.before.byte_at.ensures ∙ c.if-byte_at-ne36.false
 
 part_end : tie.Need-slice-bounds-find-delimiter-end
 part_end c =
     let g = c.before.before.before.before in
-    let h = tag_closed g.args.text.now g.args.start c.before.before.tag-end.result c.before.before.tag-end.ensures g.requires.1 (closed c) in
+    let h = tag_closed g.args.text.now g.args.start c.before.before.tag_end-tag.result c.before.before.tag_end-tag.ensures g.requires.1 (closed c) in
     search rules
 
-find-delimiter-requires : tie.Need-find-delimiter-requires
-find-delimiter-requires c κs =
+find_delimiter-end-requires : tie.Need-find_delimiter-end-requires
+find_delimiter-end-requires c κs =
     let g = c.before.before.before.before.before in
     let s = g.args.text.now in
-    let t = c.before.before.before.tag-end in
+    let t = c.before.before.before.tag_end-tag in
     let f = t.ensures.from in (
       opens s g.args.start t.result t.ensures g.requires.1 (closed c.before),
       omega (arith, opening_size s g.args.start t.result f g.requires.1 t.ensures.tags (closed c.before)),
     )
 
-returns-2 : tie.Need-returns-2
-returns-2 c =
+returns-then-end-eq0 : tie.Need-returns-then-end-eq0
+returns-then-end-eq0 c =
     let b = c.before.before.before in
     let g = b.before.before.before.before in
-    not_found g.args.text.now g.args.start b.before.before.tag-end.result b.before.before.tag-end.ensures g.requires.1 (closed b)
-    c.before.find-delimiter.result c.before.find-delimiter.ensures c.if2.true
+    not_found g.args.text.now g.args.start b.before.before.tag_end-tag.result b.before.before.tag_end-tag.ensures g.requires.1 (closed b)
+    c.before.find_delimiter-end.result c.before.find_delimiter-end.ensures c.if-end-eq0.true
 
-returns-3 : tie.Need-returns-3
-returns-3 c =
+returns : tie.Need-returns
+returns c =
     let b = c.before.before.before in
     let g = b.before.before.before.before in
-    here_found g.args.text.now g.args.start b.before.before.tag-end.result b.before.before.tag-end.ensures g.requires.1 (closed b)
-    c.before.find-delimiter.result c.before.find-delimiter.ensures c.if2.false
+    here_found g.args.text.now g.args.start b.before.before.tag_end-tag.result b.before.before.tag_end-tag.ensures g.requires.1 (closed b)
+    c.before.find_delimiter-end.result c.before.find_delimiter-end.ensures c.if-end-eq0.false
 
-pub read-dollar-spec : {M : Type 1} → statement M
-read-dollar-spec =
+pub read_dollar_spec : {M : Type 1} → statement M
+read_dollar_spec =
     tie.close
     (tie.spec
     (λ c. search rules)
     (λ c. search rules)
     (λ c κs. search rules)
     (λ c κs. search rules)
-    returns
+    returns-then-byte_at-ne36
     (λ c. search rules)
     (λ c. search rules)
     (λ c. search rules)
     part_end
-    find-delimiter-requires
-    returns-2
-    returns-3)
+    find_delimiter-end-requires
+    returns-then-end-eq0
+    returns)

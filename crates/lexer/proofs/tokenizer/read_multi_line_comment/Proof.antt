@@ -11,116 +11,116 @@ use Rattle.lexer.proofs.Comments.{comment_at, pair, pair_inside, comment_end, co
 use Rattle.lexer.proofs.tokenizer.read_multi_line_comment.Statement.{statement}
 use Rattle.lexer.proofs.tokenizer.read_multi_line_comment.Tie as tie
 
-abbrev invariant-loop : tie.invariant-loop
-invariant-loop text at j₀ deeper₀ j deeper = (comment_at text j deeper ≡ comment_at text at 0) × (deeper ≤ j)
+abbrev invariant-loop-j : tie.invariant-loop-j
+invariant-loop-j text at j₀ deeper₀ j deeper = (comment_at text j deeper ≡ comment_at text at 0) × (deeper ≤ j)
 
-abbrev decreases-loop : tie.decreases-loop
-decreases-loop text at j₀ deeper₀ j deeper = length text - j
+abbrev decreases-loop-j : tie.decreases-loop-j
+decreases-loop-j text at j₀ deeper₀ j deeper = length text - j
 
-loop-holds : tie.Need-loop-init invariant-loop decreases-loop
-loop-holds c =
+loop-j-init : tie.Need-loop-j-init invariant-loop-j decreases-loop-j
+loop-j-init c =
     let a = c.before.before.args in
-    (⊎_elim (λ w. rw w.2 (comment_over a.text.now a.at w.1.result 0 w.1.ensures)) (λ w. rw w.1) c.if1.branch, omega arith)
+    (⊎_elim (λ w. rw w.2 (comment_over a.text.now a.at w.1.result 0 w.1.ensures)) (λ w. rw w.1) c.if-j-text.branch-raw, omega arith)
 
-two-at-requires : tie.Need-two-at-requires invariant-loop decreases-loop
-two-at-requires c κs = (omega arith, omega arith)
+two_at-requires : tie.Need-two_at-requires invariant-loop-j decreases-loop-j
+two_at-requires c κs = (omega arith, omega arith)
 
 -- at `*/`
-shut : (c : tie.Then2 invariant-loop decreases-loop) → pair c.before.before.before.before.before.before.args.text.now c.before.before.before.loop.j star slash ≡ true
-shut c = sym c.before.two_at.ensures ∙ c.if2.true
+shut : (c : tie.Then-two_at invariant-loop-j decreases-loop-j) → pair c.before.before.before.before.before.before.args.text.now c.before.before.before.loop-j.j star slash ≡ true
+shut c = sym c.before.two_at.ensures ∙ c.if-two_at.true
 
-shut-inside : (c : tie.Then2 invariant-loop decreases-loop) → c.before.before.before.loop.j + 1 < length c.before.before.before.before.before.before.args.text.now
-shut-inside c = let l = c.before.before.before in pair_inside l.before.before.before.args.text.now l.loop.j (omega arith) star slash (omega arith) (shut c)
+shut-inside : (c : tie.Then-two_at invariant-loop-j decreases-loop-j) → c.before.before.before.loop-j.j + 1 < length c.before.before.before.before.before.before.args.text.now
+shut-inside c = let l = c.before.before.before in pair_inside l.before.before.before.args.text.now l.loop-j.j (omega arith) star slash (omega arith) (shut c)
 
-add-t11 : tie.Need-overflow-add-t11 invariant-loop decreases-loop
-add-t11 c = omega (arith, shut-inside c.before.before)
+overflow_add-result : tie.Need-overflow_add-result invariant-loop-j decreases-loop-j
+overflow_add-result c = omega (arith, shut-inside c.before.before)
 
-returns : tie.Need-returns invariant-loop decreases-loop
-returns c =
+returns-then-deeper-eq0 : tie.Need-returns-then-deeper-eq0 invariant-loop-j decreases-loop-j
+returns-then-deeper-eq0 c =
     let l = c.before.before.before.before.before in
-    sym (comment_done l.before.before.before.args.text.now l.loop.j (omega arith) (shut c.before.before)) ∙ (rw c.before.if3.true at l.loop.invariant.0)
+    sym (comment_done l.before.before.before.args.text.now l.loop-j.j (omega arith) (shut c.before.before)) ∙ (rw c.before.if-deeper-eq0.true at l.loop-j.invariant.0)
 
-sub-deeper : tie.Need-overflow-sub-deeper invariant-loop decreases-loop
-sub-deeper c = omega arith
+overflow_sub-deeper : tie.Need-overflow_sub-deeper invariant-loop-j decreases-loop-j
+overflow_sub-deeper c = omega arith
 
-add-j : tie.Need-overflow-add-j invariant-loop decreases-loop
-add-j c = omega (arith, shut-inside c.before.before)
+overflow_add-j : tie.Need-overflow_add-j invariant-loop-j decreases-loop-j
+overflow_add-j c = omega (arith, shut-inside c.before.before)
 
-loop-less : tie.Need-loop-smaller invariant-loop decreases-loop
-loop-less c = omega (arith, shut-inside c.before.before)
+loop-j-smaller-then-two_at : tie.Need-loop-j-smaller-then-two_at invariant-loop-j decreases-loop-j
+loop-j-smaller-then-two_at c = omega (arith, shut-inside c.before.before)
 
-loop-again : tie.Need-loop-preserved invariant-loop decreases-loop
-loop-again c =
+loop-j-preserved-then-two_at : tie.Need-loop-j-preserved-then-two_at invariant-loop-j decreases-loop-j
+loop-j-preserved-then-two_at c =
     let l = c.before.before.before.before.before in
-    (sym (comment_shallower l.before.before.before.args.text.now l.loop.j (omega arith) l.loop.deeper (omega arith) (shut c.before.before)) ∙ l.loop.invariant.0, omega arith)
+    (sym (comment_shallower l.before.before.before.args.text.now l.loop-j.j (omega arith) l.loop-j.deeper (omega arith) (shut c.before.before)) ∙ l.loop-j.invariant.0, omega arith)
 
-two-at-requires-2 : tie.Need-two-at-requires-2 invariant-loop decreases-loop
-two-at-requires-2 c κs = (omega arith, omega arith)
+two_at-requires-in-loop-j : tie.Need-two_at-requires-in-loop-j invariant-loop-j decreases-loop-j
+two_at-requires-in-loop-j c κs = (omega arith, omega arith)
 
 -- at `/*`
-opened : (c : tie.Then4 invariant-loop decreases-loop) → pair c.before.before.before.before.before.before.before.before.args.text.now c.before.before.before.before.before.loop.j slash star ≡ true
-opened c = sym c.before.two-at2.ensures ∙ c.if4.true
+opened : (c : tie.Then-two_at-2 invariant-loop-j decreases-loop-j) → pair c.before.before.before.before.before.before.before.before.args.text.now c.before.before.before.before.before.loop-j.j slash star ≡ true
+opened c = sym c.before.two_at-in-loop-j.ensures ∙ c.if-two_at-2.true
 
-opened_inside : (c : tie.Then4 invariant-loop decreases-loop) → c.before.before.before.before.before.loop.j + 1 < length c.before.before.before.before.before.before.before.before.args.text.now
-opened_inside c = let l = c.before.before.before.before.before in pair_inside l.before.before.before.args.text.now l.loop.j (omega arith) slash star (omega arith) (opened c)
+opened_inside : (c : tie.Then-two_at-2 invariant-loop-j decreases-loop-j) → c.before.before.before.before.before.loop-j.j + 1 < length c.before.before.before.before.before.before.before.before.args.text.now
+opened_inside c = let l = c.before.before.before.before.before in pair_inside l.before.before.before.args.text.now l.loop-j.j (omega arith) slash star (omega arith) (opened c)
 
-add-deeper : tie.Need-overflow-add-deeper invariant-loop decreases-loop
-add-deeper c = omega arith
+overflow_add-deeper : tie.Need-overflow_add-deeper invariant-loop-j decreases-loop-j
+overflow_add-deeper c = omega arith
 
-add-j-2 : tie.Need-overflow-add-j-2 invariant-loop decreases-loop
-add-j-2 c = omega (arith, opened_inside c.before)
+overflow_add-j-then-two_at-2 : tie.Need-overflow_add-j-then-two_at-2 invariant-loop-j decreases-loop-j
+overflow_add-j-then-two_at-2 c = omega (arith, opened_inside c.before)
 
-loop-less-2 : tie.Need-loop-smaller-2 invariant-loop decreases-loop
-loop-less-2 c = omega (arith, opened_inside c.before)
+loop-j-smaller-then-two_at-2 : tie.Need-loop-j-smaller-then-two_at-2 invariant-loop-j decreases-loop-j
+loop-j-smaller-then-two_at-2 c = omega (arith, opened_inside c.before)
 
-loop-again-2 : tie.Need-loop-preserved-2 invariant-loop decreases-loop
-loop-again-2 c =
+loop-j-preserved-then-two_at-2 : tie.Need-loop-j-preserved-then-two_at-2 invariant-loop-j decreases-loop-j
+loop-j-preserved-then-two_at-2 c =
     let l = c.before.before.before.before.before.before in
-    (sym (comment_deeper l.before.before.before.args.text.now l.loop.j (omega arith) l.loop.deeper (opened c.before)) ∙ l.loop.invariant.0, omega arith)
+    (sym (comment_deeper l.before.before.before.args.text.now l.loop-j.j (omega arith) l.loop-j.deeper (opened c.before)) ∙ l.loop-j.invariant.0, omega arith)
 
-loop-less-3 : tie.Need-loop-smaller-3 invariant-loop decreases-loop
-loop-less-3 c = omega (arith, c.skip-to-either2.ensures.from)
+loop-j-smaller : tie.Need-loop-j-smaller invariant-loop-j decreases-loop-j
+loop-j-smaller c = omega (arith, c.skip_to_either-j-in-loop-j.ensures.from)
 
-loop-again-3 : tie.Need-loop-preserved-3 invariant-loop decreases-loop
-loop-again-3 c =
+loop-j-preserved : tie.Need-loop-j-preserved invariant-loop-j decreases-loop-j
+loop-j-preserved c =
     let e = c.before.before in
     let l = e.before.before.before.before.before in
     let s = l.before.before.before.args.text.now in (
-      comment_over s (l.loop.j + 1) c.skip-to-either2.result l.loop.deeper c.skip-to-either2.ensures
-          ∙ sym (comment_on s l.loop.j (omega arith) l.loop.deeper
-          (sym e.before.before.before.two_at.ensures ∙ e.before.before.if2.false)
-          (sym e.before.two-at2.ensures ∙ e.if4.false))
-          ∙ l.loop.invariant.0,
-      omega (arith, c.skip-to-either2.ensures.from),
+      comment_over s (l.loop-j.j + 1) c.skip_to_either-j-in-loop-j.result l.loop-j.deeper c.skip_to_either-j-in-loop-j.ensures
+          ∙ sym (comment_on s l.loop-j.j (omega arith) l.loop-j.deeper
+          (sym e.before.before.before.two_at.ensures ∙ e.before.before.if-two_at.false)
+          (sym e.before.two_at-in-loop-j.ensures ∙ e.if-two_at-2.false))
+          ∙ l.loop-j.invariant.0,
+      omega (arith, c.skip_to_either-j-in-loop-j.ensures.from),
     )
 
-returns-2 : tie.Need-returns-2 invariant-loop decreases-loop
-returns-2 c =
+returns : tie.Need-returns invariant-loop-j decreases-loop-j
+returns c =
     let l = c.before in
-    sym (comment_end l.before.before.before.args.text.now l.loop.j l.loop.deeper (omega arith)) ∙ l.loop.invariant.0
+    sym (comment_end l.before.before.before.args.text.now l.loop-j.j l.loop-j.deeper (omega arith)) ∙ l.loop-j.invariant.0
 
-pub read-multi-line-comment-spec : {M : Type 1} → statement M
-read-multi-line-comment-spec =
+pub read_multi_line_comment_spec : {M : Type 1} → statement M
+read_multi_line_comment_spec =
     tie.close
     (tie.spec
-    invariant-loop
-    decreases-loop
+    invariant-loop-j
+    decreases-loop-j
     (λ c κs. (omega arith, omega arith, omega arith, λ e. omega arith))
-    loop-holds
-    two-at-requires
-    add-t11
-    returns
-    sub-deeper
-    add-j
-    loop-less
-    loop-again
-    two-at-requires-2
-    add-deeper
-    add-j-2
-    loop-less-2
-    loop-again-2
+    loop-j-init
+    two_at-requires
+    overflow_add-result
+    returns-then-deeper-eq0
+    overflow_sub-deeper
+    overflow_add-j
+    loop-j-smaller-then-two_at
+    loop-j-preserved-then-two_at
+    two_at-requires-in-loop-j
+    overflow_add-deeper
+    overflow_add-j-then-two_at-2
+    loop-j-smaller-then-two_at-2
+    loop-j-preserved-then-two_at-2
     (λ c. omega arith)
     (λ c κs. (omega arith, omega arith, omega arith, λ e. omega arith))
-    loop-less-3
-    loop-again-3
-    returns-2)
+    loop-j-smaller
+    loop-j-preserved
+    returns)

@@ -15,7 +15,7 @@ use Rattle.lexer.proofs.tokenizer.read_operator.Statement.{statement}
 use Rattle.lexer.proofs.tokenizer.read_operator.Tie as tie
 
 -- the operator by the characters, and what `is_spaceship` and `pair` say of the bytes
-module _ (c : tie.After-is-spaceship) where
+module _ (c : tie.After-is_spaceship) where
   abbrev st : tie.Start
   st = c.before.before.before.before.before
 
@@ -31,27 +31,27 @@ module _ (c : tie.After-is-spaceship) where
   reads : operator_at (chars (drop i s)) ≡ operator head (chars (drop (i + 1) s))
   reads = ap operator_at (chars_ascii s i st.pre.0 st.pre.1)
 
-  ship : c.is-spaceship.result ≡ spaceship (get_or s i 0) (get_or s (i + 1) 0) (get_or s (i + 2) 0)
-  ship = c.is-spaceship.ensures ∙ ap₂ (spaceship (get_or s i 0)) c.before.before.byte_at.ensures c.before.byte-at2.ensures
+  ship : c.is_spaceship.result ≡ spaceship (get_or s i 0) (get_or s (i + 1) 0) (get_or s (i + 2) 0)
+  ship = c.is_spaceship.ensures ∙ ap₂ (spaceship (get_or s i 0)) c.before.before.byte_at-b.ensures c.before.byte_at-c.ensures
 
-both : (c : tie.After-pair) → let t = c.before.before in c.pair.result ≡ pair (get_or (s t) (i t) 0) (get_or (s t) (i t + 1) 0)
-both c = let t = c.before.before in c.pair.ensures ∙ ap (pair (get_or (s t) (i t) 0)) t.before.before.byte_at.ensures
+both : (c : tie.After-pair-k) → let t = c.before.before in c.pair-k.result ≡ pair (get_or (s t) (i t) 0) (get_or (s t) (i t + 1) 0)
+both c = let t = c.before.before in c.pair-k.ensures ∙ ap (pair (get_or (s t) (i t) 0)) t.before.before.byte_at-b.ensures
+
+returns-then-is_spaceship : tie.Need-returns-then-is_spaceship
+returns-then-is_spaceship c = let t = c.before in lexed_is (i t) (reads t ∙ operator_ship (s t) (i t) (head t) refl (sym (ship t) ∙ c.if-is_spaceship.true)) _ refl
+
+returns-then-k-ne0 : tie.Need-returns-then-k-ne0
+returns-then-k-ne0 c =
+    let t = c.before.before.before in
+    lexed_is (i t) (reads t ∙ operator-pair (s t) (i t) (head t) refl (sym (ship t) ∙ c.before.before.if-is_spaceship.false) _ (both c.before) c.if-k-ne0.true) _ refl
 
 returns : tie.Need-returns
-returns c = let t = c.before in lexed_is (i t) (reads t ∙ operator_ship (s t) (i t) (head t) refl (sym (ship t) ∙ c.if1.true)) _ refl
-
-returns-2 : tie.Need-returns-2
-returns-2 c =
+returns c =
     let t = c.before.before.before in
-    lexed_is (i t) (reads t ∙ operator-pair (s t) (i t) (head t) refl (sym (ship t) ∙ c.before.before.if1.false) _ (both c.before) c.if2.true) _ refl
+    lexed_is (i t) (reads t ∙ operator-single (s t) (i t) (head t) refl (sym (ship t) ∙ c.before.before.if-is_spaceship.false) _ (both c.before) c.if-k-ne0.false ∙ ap (λ (k : ℕ). is k 1) (st t).requires.2) _ refl
 
-returns-3 : tie.Need-returns-3
-returns-3 c =
-    let t = c.before.before.before in
-    lexed_is (i t) (reads t ∙ operator-single (s t) (i t) (head t) refl (sym (ship t) ∙ c.before.before.if1.false) _ (both c.before) c.if2.false ∙ ap (λ (k : ℕ). is k 1) (st t).requires.2) _ refl
-
-pub read-operator-spec : {M : Type 1} → statement M
-read-operator-spec =
+pub read_operator_spec : {M : Type 1} → statement M
+read_operator_spec =
     tie.close
     (tie.spec
     (λ c. search rules)
@@ -61,9 +61,9 @@ read-operator-spec =
     (λ c κs. search rules)
     (λ c κs. search rules)
     (λ c. search rules)
-    returns
+    returns-then-is_spaceship
     (λ c κs. search rules)
     (λ c. search rules)
-    returns-2
+    returns-then-k-ne0
     (λ c. search rules)
-    returns-3)
+    returns)

@@ -38,32 +38,32 @@ module _ (st : tie.Start) where
   low : (k : ℕ) → k < 0x80 → get_or s i 0 ≡ k → get_or s i 0 < 0x80
   low k h e = omega arith
 
-returns : tie.Need-returns
-returns c =
+returns-in-39 : tie.Need-returns-in-39
+returns-in-39 c =
     let t = c.before.before.before.before in
-    let e = c.before.match.keys1 in
-    c.read-string.ensures ∙ quoted t quote StringToken ErrorSingleQuoteIsNotClosed ∙ ap (ends_at (i t)) (sym (by_quote (d t) (s t) (i t) t.requires.0 (low t quote (omega arith) e) e))
+    let e = c.before.in_default.keys1 in
+    c.read_string.ensures ∙ quoted t quote StringToken ErrorSingleQuoteIsNotClosed ∙ ap (ends_at (i t)) (sym (by_quote (d t) (s t) (i t) t.requires.0 (low t quote (omega arith) e) e))
 
-returns-2 : tie.Need-returns-2
-returns-2 c =
+returns-in-34 : tie.Need-returns-in-34
+returns-in-34 c =
     let t = c.before.before.before.before in
-    let e = c.before.match.keys2 in
-    c.read-string2.ensures ∙ quoted t double_quote QuotedIdentifier ErrorDoubleQuoteIsNotClosed ∙ ap (ends_at (i t)) (sym (by_double_quote (d t) (s t) (i t) t.requires.0 (low t double_quote (omega arith) e) e))
+    let e = c.before.in_default.keys2 in
+    c.read_string-in-34.ensures ∙ quoted t double_quote QuotedIdentifier ErrorDoubleQuoteIsNotClosed ∙ ap (ends_at (i t)) (sym (by_double_quote (d t) (s t) (i t) t.requires.0 (low t double_quote (omega arith) e) e))
 
-returns-3 : tie.Need-returns-3
-returns-3 c =
+returns-in-96 : tie.Need-returns-in-96
+returns-in-96 c =
     let t = c.before.before.before.before in
-    let e = c.before.match.keys3 in
-    c.read-string3.ensures ∙ quoted t back_quote QuotedIdentifier ErrorBackQuoteIsNotClosed ∙ ap (ends_at (i t)) (sym (by_back_quote (d t) (s t) (i t) t.requires.0 (low t back_quote (omega arith) e) e))
+    let e = c.before.in_default.keys3 in
+    c.read_string-in-96.ensures ∙ quoted t back_quote QuotedIdentifier ErrorBackQuoteIsNotClosed ∙ ap (ends_at (i t)) (sym (by_back_quote (d t) (s t) (i t) t.requires.0 (low t back_quote (omega arith) e) e))
 
-returns-4 : tie.Need-returns-4
-returns-4 c =
+returns-in-36 : tie.Need-returns-in-36
+returns-in-36 c =
     let t = c.before.before.before.before in
-    let e = c.before.match.keys4 in
-    c.read-dollar.ensures ∙ ap (ends_at (i t)) (sym (by_dollar (d t) (s t) (i t) t.requires.0 (low t dollar (omega arith) e) e))
+    let e = c.before.in_default.keys4 in
+    c.read_dollar.ensures ∙ ap (ends_at (i t)) (sym (by_dollar (d t) (s t) (i t) t.requires.0 (low t dollar (omega arith) e) e))
 
-pub read-other-spec : {M : Type 1} → statement M
-read-other-spec =
+pub read_other_spec : {M : Type 1} → statement M
+read_other_spec =
     tie.close
     (tie.spec
     (λ c. search rules)
@@ -74,9 +74,9 @@ read-other-spec =
     (λ c. search rules)
     (λ c κs. search rules)
     (λ c κs. search rules)
-    (λ c κs. let t = c.before.before.before in (t.requires.0, lead_none (get_or (s t) (i t) 0) t.requires.1 (missed_all (dollar ∷ back_quote ∷ double_quote ∷ quote ∷ []) _ c.match.rest)))
-    returns
-    returns-2
-    returns-3
-    returns-4
-    (λ c. c.read-non-ascii.ensures))
+    (λ c κs. let t = c.before.before.before in (t.requires.0, lead_none (get_or (s t) (i t) 0) t.requires.1 (missed_all (dollar ∷ back_quote ∷ double_quote ∷ quote ∷ []) _ c.in_default.rest)))
+    returns-in-39
+    returns-in-34
+    returns-in-96
+    returns-in-36
+    (λ c. c.read_non_ascii.ensures))

@@ -3,11 +3,11 @@ use borrow.Author.Rules.{rules}
 use Rattle.lexer.proofs.tokenizer.read_radix_digits.Statement.{statement}
 use Rattle.lexer.proofs.tokenizer.read_radix_digits.Tie as tie
 
-returns : tie.Need-returns
-returns c = rw c.before.if1.true c.read-hex-digits.ensures
+returns-then-hex : tie.Need-returns-then-hex
+returns-then-hex c = rw c.before.if-hex.true c.read_hex_digits.ensures
 
-returns-2 : tie.Need-returns-2
-returns-2 c = rw c.before.if1.false c.read-digits.ensures
+returns-else-hex : tie.Need-returns-else-hex
+returns-else-hex c = rw c.before.if-hex.false c.read_digits.ensures
 
-pub read-radix-digits-spec : {M : Type 1} → statement M
-read-radix-digits-spec = tie.close (tie.spec (λ c κs. search rules) (λ c κs. search rules) returns returns-2)
+pub read_radix_digits_spec : {M : Type 1} → statement M
+read_radix_digits_spec = tie.close (tie.spec (λ c κs. search rules) (λ c κs. search rules) returns-then-hex returns-else-hex)

@@ -13,57 +13,57 @@ use Rattle.rules.proofs.NumberBytes.{digits_end, byte_stop, byte-turn, radix_hig
 use Rattle.lexer.proofs.tokenizer.read_run.Statement.{statement}
 use Rattle.lexer.proofs.tokenizer.read_run.Tie as tie
 
-abbrev invariant-loop : tie.invariant-loop
-invariant-loop text at hex j₀ after₀ j after = j + digits (radix_digit hex) after (chars (drop j text)) ≡ at + digits (radix_digit hex) false (chars (drop at text))
+abbrev invariant-loop-j : tie.invariant-loop-j
+invariant-loop-j text at hex j₀ after₀ j after = j + digits (radix_digit hex) after (chars (drop j text)) ≡ at + digits (radix_digit hex) false (chars (drop at text))
 
-abbrev decreases-loop : tie.decreases-loop
-decreases-loop text at hex j₀ after₀ j after = length text - j
+abbrev decreases-loop-j : tie.decreases-loop-j
+decreases-loop-j text at hex j₀ after₀ j after = length text - j
 
-loop-holds : tie.Need-loop-init invariant-loop decreases-loop
-loop-holds c = omega arith
+loop-j-init : tie.Need-loop-j-init invariant-loop-j decreases-loop-j
+loop-j-init c = omega arith
 
-returns : tie.Need-returns invariant-loop decreases-loop
-returns c =
-    let r = c.before.before.before.is-radix-digit in
+returns-then-not-is_separator : tie.Need-returns-then-not-is_separator invariant-loop-j decreases-loop-j
+returns-then-not-is_separator c =
+    let r = c.before.before.before.is_radix_digit-digit in
     let l = c.before.before.before.before.before.before in
     let a = l.before.before.args in
     let s = a.text.now in
     omega (
       arith,
-      l.loop.invariant,
-      byte_stop (radix_digit a.hex) (radix_high a.hex) (radix_none a.hex) s l.loop.after l.loop.j (omega arith) (sym r.ensures ∙ not-true r.result c.before.before.if1.true) (sym c.before.is-separator.ensures ∙ not-true _ c.if2.true),
+      l.loop-j.invariant,
+      byte_stop (radix_digit a.hex) (radix_high a.hex) (radix_none a.hex) s l.loop-j.after l.loop-j.j (omega arith) (sym r.ensures ∙ not-true r.result c.before.before.if-not-digit.true) (sym c.before.is_separator.ensures ∙ not-true _ c.if-not-is_separator.true),
     )
 
-loop-again : tie.Need-loop-preserved invariant-loop decreases-loop
-loop-again c =
-    let r = c.before.is-radix-digit in
+loop-j-preserved : tie.Need-loop-j-preserved invariant-loop-j decreases-loop-j
+loop-j-preserved c =
+    let r = c.before.is_radix_digit-digit in
     let l = c.before.before.before.before in
     let a = l.before.before.args in
     omega (
       arith,
-      l.loop.invariant,
-      byte-turn (radix_digit a.hex) (radix_high a.hex) (radix_none a.hex) a.text.now l.loop.after l.loop.j (omega arith) r.result r.ensures
-          (λ e. ⊎_elim (λ w. sym w.1.ensures ∙ not-false _ w.2.left) (λ w. clash (not-false _ w.left) e) c.if1.branch),
+      l.loop-j.invariant,
+      byte-turn (radix_digit a.hex) (radix_high a.hex) (radix_none a.hex) a.text.now l.loop-j.after l.loop-j.j (omega arith) r.result r.ensures
+          (λ e. ⊎_elim (λ w. sym w.1.ensures ∙ not-false _ w.2.left) (λ w. clash (not-false _ w.left) e) c.if-not-digit.branch-raw),
     )
 
-returns-2 : tie.Need-returns-2 invariant-loop decreases-loop
-returns-2 c =
+returns : tie.Need-returns invariant-loop-j decreases-loop-j
+returns c =
     let l = c.before in
     let a = l.before.before.args in
-    omega (arith, l.loop.invariant, digits_end (radix_digit a.hex) (radix_high a.hex) (radix_none a.hex) a.text.now l.loop.after l.loop.j c.loop-test.false)
+    omega (arith, l.loop-j.invariant, digits_end (radix_digit a.hex) (radix_high a.hex) (radix_none a.hex) a.text.now l.loop-j.after l.loop-j.j c.loop-j-test.false)
 
-pub read-run-spec : {M : Type 1} → statement M
-read-run-spec =
+pub read_run_spec : {M : Type 1} → statement M
+read_run_spec =
     tie.close
     (tie.spec
-    invariant-loop
-    decreases-loop
-    loop-holds
+    invariant-loop-j
+    decreases-loop-j
+    loop-j-init
     (λ c. omega arith)
     (λ c κs. omega arith)
     (λ c κs. omega arith)
-    returns
+    returns-then-not-is_separator
     (λ c. omega arith)
     (λ c. omega arith)
-    loop-again
-    returns-2)
+    loop-j-preserved
+    returns)

@@ -9,41 +9,41 @@ use Rattle.lexer.proofs.Runs.{Reaches, run_end, ascii_stop, line_more, line_over
 use Rattle.lexer.proofs.tokenizer.read_single_line_comment.Statement.{statement}
 use Rattle.lexer.proofs.tokenizer.read_single_line_comment.Tie as tie
 
-abbrev invariant-loop : tie.invariant-loop
-invariant-loop text at j₀ j = Reaches not_line_feed text at j
+abbrev invariant-loop-j : tie.invariant-loop-j
+invariant-loop-j text at j₀ j = Reaches not_line_feed text at j
 
-abbrev decreases-loop : tie.decreases-loop
-decreases-loop text at j₀ j = length text - j
+abbrev decreases-loop-j : tie.decreases-loop-j
+decreases-loop-j text at j₀ j = length text - j
 
-loop-holds : tie.Need-loop-init invariant-loop decreases-loop
-loop-holds c =
+loop-j-init : tie.Need-loop-j-init invariant-loop-j decreases-loop-j
+loop-j-init c =
     let a = c.before.before.args in
-    ⊎_elim (λ w. rw w.2 (line_over a.text.now a.at w.1.result w.1.ensures)) (λ w. rw w.1) c.if1.branch
+    ⊎_elim (λ w. rw w.2 (line_over a.text.now a.at w.1.result w.1.ensures)) (λ w. rw w.1) c.if-j-text.branch-raw
 
-returns : tie.Need-returns invariant-loop decreases-loop
-returns c =
+returns-then-text-j-eq10 : tie.Need-returns-then-text-j-eq10 invariant-loop-j decreases-loop-j
+returns-then-text-j-eq10 c =
     let l = c.before.before.before in
-    omega (arith, ascii_stop not_line_feed l.before.before.before.args.text.now l.loop.j (omega arith) (omega arith) (ap not_line_feed c.if2.true))
+    omega (arith, ascii_stop not_line_feed l.before.before.before.args.text.now l.loop-j.j (omega arith) (omega arith) (ap not_line_feed c.if-text-j-eq10.true))
 
-loop-again : tie.Need-loop-preserved invariant-loop decreases-loop
-loop-again c =
+loop-j-preserved : tie.Need-loop-j-preserved invariant-loop-j decreases-loop-j
+loop-j-preserved c =
     let l = c.before.before.before.before in
-    omega (arith, line_more l.before.before.before.args.text.now l.loop.j (omega arith) c.before.if2.false)
+    omega (arith, line_more l.before.before.before.args.text.now l.loop-j.j (omega arith) c.before.if-text-j-eq10.false)
 
-returns-2 : tie.Need-returns-2 invariant-loop decreases-loop
-returns-2 c = let l = c.before in omega (arith, run_end not_line_feed l.before.before.before.args.text.now l.loop.j (omega arith))
+returns : tie.Need-returns invariant-loop-j decreases-loop-j
+returns c = let l = c.before in omega (arith, run_end not_line_feed l.before.before.before.args.text.now l.loop-j.j (omega arith))
 
-pub read-single-line-comment-spec : {M : Type 1} → statement M
-read-single-line-comment-spec =
+pub read_single_line_comment_spec : {M : Type 1} → statement M
+read_single_line_comment_spec =
     tie.close
     (tie.spec
-    invariant-loop
-    decreases-loop
+    invariant-loop-j
+    decreases-loop-j
     (λ c κs. (omega arith, omega arith))
-    loop-holds
+    loop-j-init
     (λ c. omega arith)
-    returns
+    returns-then-text-j-eq10
     (λ c. omega arith)
     (λ c. omega arith)
-    loop-again
-    returns-2)
+    loop-j-preserved
+    returns)

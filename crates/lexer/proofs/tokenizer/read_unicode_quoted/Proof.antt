@@ -14,52 +14,52 @@ use Rattle.lexer.proofs.Bodies.{reading, Turn, turn}
 use Rattle.lexer.proofs.tokenizer.read_unicode_quoted.Statement.{statement}
 use Rattle.lexer.proofs.tokenizer.read_unicode_quoted.Tie as tie
 
-abbrev invariant-loop : tie.invariant-loop
-invariant-loop text at last kind error i₀ i = reading (up_to (curly_close last)) text kind error i ≡ reading (up_to (curly_close last)) text kind error at
+abbrev invariant-loop-i : tie.invariant-loop-i
+invariant-loop-i text at last kind error i₀ i = reading (up_to (curly_close last)) text kind error i ≡ reading (up_to (curly_close last)) text kind error at
 
-abbrev decreases-loop : tie.decreases-loop
-decreases-loop text at last kind error i₀ i = length text - i
+abbrev decreases-loop-i : tie.decreases-loop-i
+decreases-loop-i text at last kind error i₀ i = length text - i
 
-at-loop : (l : tie.At-loop invariant-loop decreases-loop) →
+at-loop : (l : tie.At-loop-i invariant-loop-i decreases-loop-i) →
     let a = l.before.before.args in
-    Turn (up_to (curly_close a.last)) a.text.now a.success-type a.error-type a.at l.loop.i
+    Turn (up_to (curly_close a.last)) a.text.now a.success-type a.error-type a.at l.loop-i.i
 at-loop l =
     let a = l.before.before.args in
-    turn (up_to (curly_close a.last)) a.text.now a.success-type a.error-type a.at l.loop.i l.loop.invariant
+    turn (up_to (curly_close a.last)) a.text.now a.success-type a.error-type a.at l.loop-i.i l.loop-i.invariant
 
 -- the closing quote stands at i, whole
-closed : (c : tie.Then1 invariant-loop decreases-loop) →
+closed : (c : tie.Then-closes_curly invariant-loop-i decreases-loop-i) →
     let l = c.before.before.before in
     let a = l.before.before.args in
-    (up_to (curly_close a.last) (chars (drop l.loop.i a.text.now)) ≡ closed_by 3) × (l.loop.i + 3 ≤ length a.text.now)
+    (up_to (curly_close a.last) (chars (drop l.loop-i.i a.text.now)) ≡ closed_by 3) × (l.loop-i.i + 3 ≤ length a.text.now)
 closed c =
     let l = c.before.before.before in
     let g = l.before.before in
-    up_to_shut g.args.text.now l.loop.i g.args.last g.requires (sym c.before.closes-curly.ensures ∙ c.if1.true)
+    up_to_shut g.args.text.now l.loop-i.i g.args.last g.requires (sym c.before.closes_curly.ensures ∙ c.if-closes_curly.true)
 
-returns : tie.Need-returns invariant-loop decreases-loop
-returns c = (at-loop c.before.before.before).shuts 3 (closed c).0
+returns-then-closes_curly : tie.Need-returns-then-closes_curly invariant-loop-i decreases-loop-i
+returns-then-closes_curly c = (at-loop c.before.before.before).shuts 3 (closed c).0
 
-loop-again : tie.Need-loop-preserved invariant-loop decreases-loop
-loop-again c =
+loop-i-preserved : tie.Need-loop-i-preserved invariant-loop-i decreases-loop-i
+loop-i-preserved c =
     let l = c.before.before.before in
     let a = l.before.before.args in
-    (at-loop l).goes 1 (up_to_pass (curly_close a.last) (omega arith) a.text.now l.loop.i c.before.before.loop-test.true (sym c.before.closes-curly.ensures ∙ c.if1.false))
+    (at-loop l).goes 1 (up_to_pass (curly_close a.last) (omega arith) a.text.now l.loop-i.i c.before.before.loop-i-test.true (sym c.before.closes_curly.ensures ∙ c.if-closes_curly.false))
 
-returns-2 : tie.Need-returns-2 invariant-loop decreases-loop
-returns-2 c = (at-loop c.before).ends (up_to_empty (curly_close c.before.before.before.args.last)) c.loop-test.false
+returns : tie.Need-returns invariant-loop-i decreases-loop-i
+returns c = (at-loop c.before).ends (up_to_empty (curly_close c.before.before.before.args.last)) c.loop-i-test.false
 
-pub read-unicode-quoted-spec : {M : Type 1} → statement M
-read-unicode-quoted-spec =
+pub read_unicode_quoted_spec : {M : Type 1} → statement M
+read_unicode_quoted_spec =
     tie.close
     (tie.spec
-    invariant-loop
-    decreases-loop
+    invariant-loop-i
+    decreases-loop-i
     (λ c. refl)
     (λ c κs. search rules)
     (λ c. omega (arith, (closed c).1))
-    returns
+    returns-then-closes_curly
     (λ c. omega arith)
     (λ c. omega arith)
-    loop-again
-    returns-2)
+    loop-i-preserved
+    returns)

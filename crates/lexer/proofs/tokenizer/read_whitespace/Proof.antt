@@ -9,59 +9,59 @@ use Rattle.lexer.proofs.Runs.{Reaches, run_end, byte_more, byte_stop, ascii_over
 use Rattle.lexer.proofs.tokenizer.read_whitespace.Statement.{statement}
 use Rattle.lexer.proofs.tokenizer.read_whitespace.Tie as tie
 
-abbrev invariant-loop : tie.invariant-loop
-invariant-loop text at j₀ j = Reaches white_space text at j
+abbrev invariant-loop-j : tie.invariant-loop-j
+invariant-loop-j text at j₀ j = Reaches white_space text at j
 
-abbrev decreases-loop : tie.decreases-loop
-decreases-loop text at j₀ j = length text - j
+abbrev decreases-loop-j : tie.decreases-loop-j
+decreases-loop-j text at j₀ j = length text - j
 
-loop-holds : tie.Need-loop-init invariant-loop decreases-loop
-loop-holds c =
+loop-j-init : tie.Need-loop-j-init invariant-loop-j decreases-loop-j
+loop-j-init c =
     let a = c.before.before.args in
-    ⊎_elim (λ w. rw w.2 (ascii_over a.text.now a.at w.1.result white_space w.1.ensures)) (λ w. rw w.1) c.if1.branch
+    ⊎_elim (λ w. rw w.2 (ascii_over a.text.now a.at w.1.result white_space w.1.ensures)) (λ w. rw w.1) c.if-j-text.branch-raw
 
-loop-again : tie.Need-loop-preserved invariant-loop decreases-loop
-loop-again c =
+loop-j-preserved-then-is_ascii_space : tie.Need-loop-j-preserved-then-is_ascii_space invariant-loop-j decreases-loop-j
+loop-j-preserved-then-is_ascii_space c =
     let l = c.before.before.before.before.before in
-    omega (arith, byte_more white_space l.before.before.before.args.text.now l.loop.j (omega arith) _ c.before.before.is-ascii-space.ensures c.before.if2.true)
+    omega (arith, byte_more white_space l.before.before.before.args.text.now l.loop-j.j (omega arith) _ c.before.before.is_ascii_space.ensures c.before.if-is_ascii_space.true)
 
-returns : tie.Need-returns invariant-loop decreases-loop
-returns c =
+returns-then-b-lt128 : tie.Need-returns-then-b-lt128 invariant-loop-j decreases-loop-j
+returns-then-b-lt128 c =
     let l = c.before.before.before.before.before in
-    omega (arith, byte_stop white_space l.before.before.before.args.text.now l.loop.j (omega arith) _ c.before.before.is-ascii-space.ensures c.if3.true c.before.if2.false)
+    omega (arith, byte_stop white_space l.before.before.before.args.text.now l.loop-j.j (omega arith) _ c.before.before.is_ascii_space.ensures c.if-b-lt128.true c.before.if-is_ascii_space.false)
 
-returns-2 : tie.Need-returns-2 invariant-loop decreases-loop
-returns-2 c = omega (arith, c.before.space-len.ensures.stops c.if4.true)
+returns-then-n-eq0 : tie.Need-returns-then-n-eq0 invariant-loop-j decreases-loop-j
+returns-then-n-eq0 c = omega (arith, c.before.space_len-n.ensures.stops c.if-n-eq0.true)
 
-add-j-2 : tie.Need-overflow-add-j-2 invariant-loop decreases-loop
-add-j-2 c = omega (arith, c.before.before.space-len.ensures.goes c.before.if4.false)
+overflow_add-j-in-loop-j : tie.Need-overflow_add-j-in-loop-j invariant-loop-j decreases-loop-j
+overflow_add-j-in-loop-j c = omega (arith, c.before.before.space_len-n.ensures.goes c.before.if-n-eq0.false)
 
-loop-less-2 : tie.Need-loop-smaller-2 invariant-loop decreases-loop
-loop-less-2 c = omega (arith, c.before.before.space-len.ensures.goes c.before.if4.false)
+loop-j-smaller : tie.Need-loop-j-smaller invariant-loop-j decreases-loop-j
+loop-j-smaller c = omega (arith, c.before.before.space_len-n.ensures.goes c.before.if-n-eq0.false)
 
-loop-again-2 : tie.Need-loop-preserved-2 invariant-loop decreases-loop
-loop-again-2 c = omega (arith, c.before.before.space-len.ensures.goes c.before.if4.false)
+loop-j-preserved : tie.Need-loop-j-preserved invariant-loop-j decreases-loop-j
+loop-j-preserved c = omega (arith, c.before.before.space_len-n.ensures.goes c.before.if-n-eq0.false)
 
-returns-3 : tie.Need-returns-3 invariant-loop decreases-loop
-returns-3 c = let l = c.before in omega (arith, run_end white_space l.before.before.before.args.text.now l.loop.j (omega arith))
+returns : tie.Need-returns invariant-loop-j decreases-loop-j
+returns c = let l = c.before in omega (arith, run_end white_space l.before.before.before.args.text.now l.loop-j.j (omega arith))
 
-pub read-whitespace-spec : {M : Type 1} → statement M
-read-whitespace-spec =
+pub read_whitespace_spec : {M : Type 1} → statement M
+read_whitespace_spec =
     tie.close
     (tie.spec
-    invariant-loop
-    decreases-loop
+    invariant-loop-j
+    decreases-loop-j
     (λ c κs. omega arith)
-    loop-holds
+    loop-j-init
     (λ c. omega arith)
     (λ c κs. search rules)
     (λ c. omega arith)
     (λ c. omega arith)
-    loop-again
-    returns
+    loop-j-preserved-then-is_ascii_space
+    returns-then-b-lt128
     (λ c κs. search rules)
-    returns-2
-    add-j-2
-    loop-less-2
-    loop-again-2
-    returns-3)
+    returns-then-n-eq0
+    overflow_add-j-in-loop-j
+    loop-j-smaller
+    loop-j-preserved
+    returns)

@@ -13,74 +13,74 @@ use Rattle.lexer.proofs.Runs.{Reaches, run_end, byte_more, byte_stop}
 use Rattle.lexer.proofs.tokenizer.read_word.Statement.{statement}
 use Rattle.lexer.proofs.tokenizer.read_word.Tie as tie
 
-abbrev invariant-loop : tie.invariant-loop
-invariant-loop text at dollar j₀ j = Reaches (word_with dollar) text at j
+abbrev invariant-loop-j : tie.invariant-loop-j
+invariant-loop-j text at dollar j₀ j = Reaches (word_with dollar) text at j
 
-abbrev decreases-loop : tie.decreases-loop
-decreases-loop text at dollar j₀ j = length text - j
+abbrev decreases-loop-j : tie.decreases-loop-j
+decreases-loop-j text at dollar j₀ j = length text - j
 
-loop-again : tie.Need-loop-preserved invariant-loop decreases-loop
-loop-again c =
+loop-j-preserved-then-is_word_byte : tie.Need-loop-j-preserved-then-is_word_byte invariant-loop-j decreases-loop-j
+loop-j-preserved-then-is_word_byte c =
     let l = c.before.before.before.before in
     let x = l.before.before.args in
-    omega (arith, byte_more (word_with x.dollar) x.text.now l.loop.j (omega arith) _ c.before.is-word-byte.ensures c.if1.true)
+    omega (arith, byte_more (word_with x.dollar) x.text.now l.loop-j.j (omega arith) _ c.before.is_word_byte.ensures c.if-is_word_byte.true)
 
-returns : tie.Need-returns invariant-loop decreases-loop
-returns c =
+returns-then-b-lt128 : tie.Need-returns-then-b-lt128 invariant-loop-j decreases-loop-j
+returns-then-b-lt128 c =
     let l = c.before.before.before.before.before in
     let x = l.before.before.args in
-    omega (arith, byte_stop (word_with x.dollar) x.text.now l.loop.j (omega arith) _ c.before.before.is-word-byte.ensures c.if2.true c.before.if1.false)
+    omega (arith, byte_stop (word_with x.dollar) x.text.now l.loop-j.j (omega arith) _ c.before.before.is_word_byte.ensures c.if-b-lt128.true c.before.if-is_word_byte.false)
 
 -- the slower reader, called with what the flag is
-slower : (l : tie.At-loop invariant-loop decreases-loop) (d : Bool) {r : ℕ} →
+slower : (l : tie.At-loop-j invariant-loop-j decreases-loop-j) (d : Bool) {r : ℕ} →
     let x = l.before.before.args in
-    x.dollar ≡ d → r ≡ l.loop.j + run (word_with d) (chars (drop l.loop.j x.text.now)) → r ≡ x.at + run (word_with x.dollar) (chars (drop x.at x.text.now))
+    x.dollar ≡ d → r ≡ l.loop-j.j + run (word_with d) (chars (drop l.loop-j.j x.text.now)) → r ≡ x.at + run (word_with x.dollar) (chars (drop x.at x.text.now))
 slower l d e f =
     let s = l.before.before.args.text.now in
-    f ∙ ap (λ (d : Bool). l.loop.j + run (word_with d) (chars (drop l.loop.j s))) (sym e) ∙ l.loop.invariant
+    f ∙ ap (λ (d : Bool). l.loop-j.j + run (word_with d) (chars (drop l.loop-j.j s))) (sym e) ∙ l.loop-j.invariant
 
-returns-2 : tie.Need-returns-2 invariant-loop decreases-loop
-returns-2 c = slower c.before.before.before.before.before.before.before.before.before true c.before.if4.true c.read-word-by-table.ensures
+returns-then-dollar : tie.Need-returns-then-dollar invariant-loop-j decreases-loop-j
+returns-then-dollar c = slower c.before.before.before.before.before.before.before.before.before true c.before.if-dollar.true c.read_word_by_table.ensures
 
-returns-3 : tie.Need-returns-3 invariant-loop decreases-loop
-returns-3 c = slower c.before.before.before.before.before.before.before.before.before false c.before.if4.false c.read-word-by-table2.ensures
+returns-then-n-eq0 : tie.Need-returns-then-n-eq0 invariant-loop-j decreases-loop-j
+returns-then-n-eq0 c = slower c.before.before.before.before.before.before.before.before.before false c.before.if-dollar.false c.read_word_by_table-then-n-eq0.ensures
 
-add-j-2 : tie.Need-overflow-add-j-2 invariant-loop decreases-loop
-add-j-2 c = omega (arith, (c.before.common-len.ensures c.if3.false true).goes c.if3.false)
+overflow_add-j-in-loop-j : tie.Need-overflow_add-j-in-loop-j invariant-loop-j decreases-loop-j
+overflow_add-j-in-loop-j c = omega (arith, (c.before.common_len-n.ensures c.if-n-eq0.false true).goes c.if-n-eq0.false)
 
-loop-less-2 : tie.Need-loop-smaller-2 invariant-loop decreases-loop
-loop-less-2 c = omega (arith, (c.before.common-len.ensures c.if3.false true).goes c.if3.false)
+loop-j-smaller : tie.Need-loop-j-smaller invariant-loop-j decreases-loop-j
+loop-j-smaller c = omega (arith, (c.before.common_len-n.ensures c.if-n-eq0.false true).goes c.if-n-eq0.false)
 
-loop-again-2 : tie.Need-loop-preserved-2 invariant-loop decreases-loop
-loop-again-2 c =
+loop-j-preserved : tie.Need-loop-j-preserved invariant-loop-j decreases-loop-j
+loop-j-preserved c =
     let d = c.before.before.before.before.before.before.before.before.before.args.dollar in
-    omega (arith, (c.before.common-len.ensures c.if3.false d).goes c.if3.false)
+    omega (arith, (c.before.common_len-n.ensures c.if-n-eq0.false d).goes c.if-n-eq0.false)
 
-returns-4 : tie.Need-returns-4 invariant-loop decreases-loop
-returns-4 c =
+returns : tie.Need-returns invariant-loop-j decreases-loop-j
+returns c =
     let l = c.before in
     let x = l.before.before.args in
-    omega (arith, run_end (word_with x.dollar) x.text.now l.loop.j (omega arith))
+    omega (arith, run_end (word_with x.dollar) x.text.now l.loop-j.j (omega arith))
 
-pub read-word-spec : {M : Type 1} → statement M
-read-word-spec =
+pub read_word_spec : {M : Type 1} → statement M
+read_word_spec =
     tie.close
     (tie.spec
-    invariant-loop
-    decreases-loop
+    invariant-loop-j
+    decreases-loop-j
     (λ c. refl)
     (λ c. omega arith)
     (λ c κs. search rules)
     (λ c. omega arith)
     (λ c. omega arith)
-    loop-again
-    returns
+    loop-j-preserved-then-is_word_byte
+    returns-then-b-lt128
     (λ c κs. search rules)
     (λ c κs. search rules)
-    returns-2
+    returns-then-dollar
     (λ c κs. search rules)
-    returns-3
-    add-j-2
-    loop-less-2
-    loop-again-2
-    returns-4)
+    returns-then-n-eq0
+    overflow_add-j-in-loop-j
+    loop-j-smaller
+    loop-j-preserved
+    returns)

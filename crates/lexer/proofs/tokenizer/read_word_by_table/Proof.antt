@@ -9,37 +9,37 @@ use Rattle.lexer.proofs.Runs.{Reaches}
 use Rattle.lexer.proofs.tokenizer.read_word_by_table.Statement.{statement}
 use Rattle.lexer.proofs.tokenizer.read_word_by_table.Tie as tie
 
-abbrev invariant-loop : tie.invariant-loop
-invariant-loop text at dollar table j₀ j = Reaches (word_with dollar) text at j
+abbrev invariant-loop-table : tie.invariant-loop-table
+invariant-loop-table text at dollar table j₀ j = Reaches (word_with dollar) text at j
 
-abbrev decreases-loop : tie.decreases-loop
-decreases-loop text at dollar table j₀ j = length text - j
+abbrev decreases-loop-table : tie.decreases-loop-table
+decreases-loop-table text at dollar table j₀ j = length text - j
 
-word-len-requires : tie.Need-word-len-requires invariant-loop decreases-loop
-word-len-requires c κs = search rules
+word_len-n-requires : tie.Need-word_len-n-requires invariant-loop-table decreases-loop-table
+word_len-n-requires c κs = search rules
 
-returns : tie.Need-returns invariant-loop decreases-loop
-returns c = omega (arith, c.before.word_len.ensures.stops c.if1.true)
+returns-then-n-eq0 : tie.Need-returns-then-n-eq0 invariant-loop-table decreases-loop-table
+returns-then-n-eq0 c = omega (arith, c.before.word_len-n.ensures.stops c.if-n-eq0.true)
 
-add-j : tie.Need-overflow-add-j invariant-loop decreases-loop
-add-j c = omega (arith, c.before.word_len.ensures.goes c.if1.false)
+overflow_add-j : tie.Need-overflow_add-j invariant-loop-table decreases-loop-table
+overflow_add-j c = omega (arith, c.before.word_len-n.ensures.goes c.if-n-eq0.false)
 
-loop-less : tie.Need-loop-smaller invariant-loop decreases-loop
-loop-less c = omega (arith, c.before.word_len.ensures.goes c.if1.false)
+loop-table-smaller : tie.Need-loop-table-smaller invariant-loop-table decreases-loop-table
+loop-table-smaller c = omega (arith, c.before.word_len-n.ensures.goes c.if-n-eq0.false)
 
-loop-again : tie.Need-loop-preserved invariant-loop decreases-loop
-loop-again c = omega (arith, c.before.word_len.ensures.goes c.if1.false)
+loop-table-preserved : tie.Need-loop-table-preserved invariant-loop-table decreases-loop-table
+loop-table-preserved c = omega (arith, c.before.word_len-n.ensures.goes c.if-n-eq0.false)
 
-pub read-word-by-table-spec : {M : Type 1} → statement M
-read-word-by-table-spec =
+pub read_word_by_table_spec : {M : Type 1} → statement M
+read_word_by_table_spec =
     tie.close
     (tie.spec
-    invariant-loop
-    decreases-loop
+    invariant-loop-table
+    decreases-loop-table
     (λ c κs. search rules)
     (λ c. refl)
-    word-len-requires
-    returns
-    add-j
-    loop-less
-    loop-again)
+    word_len-n-requires
+    returns-then-n-eq0
+    overflow_add-j
+    loop-table-smaller
+    loop-table-preserved)

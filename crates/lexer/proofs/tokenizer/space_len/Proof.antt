@@ -6,19 +6,19 @@ use Rattle.lexer.proofs.Runs.{step_taken, step_left}
 use Rattle.lexer.proofs.tokenizer.space_len.Statement.{statement}
 use Rattle.lexer.proofs.tokenizer.space_len.Tie as tie
 
-returns : tie.Need-returns
-returns c =
+returns-then-is_white_space : tie.Need-returns-then-is_white_space
+returns-then-is_white_space c =
     let t = c.before.before in
     let u = t.before.before in
     let x = u.before.before.args in
-    step_taken white_space x.text.now x.at _ u.unit-at.ensures _ t.before.unit-code.ensures _ t.is-white-space.ensures _ c.unit-len.ensures white_space_none c.before.if1.true
+    step_taken white_space x.text.now x.at _ u.unit_at-u.ensures _ t.before.unit_code.ensures _ t.is_white_space.ensures _ c.unit_len.ensures white_space_none c.before.if-is_white_space.true
 
-returns-2 : tie.Need-returns-2
-returns-2 c =
+returns-else-is_white_space : tie.Need-returns-else-is_white_space
+returns-else-is_white_space c =
     let t = c.before in
     let u = t.before.before in
     let x = u.before.before.args in
-    step_left white_space x.text.now x.at _ u.unit-at.ensures _ t.before.unit-code.ensures _ t.is-white-space.ensures c.if1.false
+    step_left white_space x.text.now x.at _ u.unit_at-u.ensures _ t.before.unit_code.ensures _ t.is_white_space.ensures c.if-is_white_space.false
 
-pub space-len-spec : {M : Type 1} → statement M
-space-len-spec = tie.close (tie.spec (λ c κs. search rules) (λ c κs. search rules) (λ c κs. search rules) (λ c κs. search rules) returns returns-2)
+pub space_len_spec : {M : Type 1} → statement M
+space_len_spec = tie.close (tie.spec (λ c κs. search rules) (λ c κs. search rules) (λ c κs. search rules) (λ c κs. search rules) returns-then-is_white_space returns-else-is_white_space)

@@ -14,18 +14,18 @@ use Rattle.lexer.proofs.tokenizer.starts_suffix.Statement.{statement}
 use Rattle.lexer.proofs.tokenizer.starts_suffix.Tie as tie
 
 -- the code is the first character's
-coded : (u : tie.After-unit-code) → let a = u.before.before.before.args in starts_suffix u.unit-code.result ≡ starts_suffix (first (chars (drop a.at a.text.now)))
-coded u = let a = u.before.before.before.args in ap starts_suffix (u.unit-code.ensures ∙ ap unit_code u.before.unit-at.ensures ∙ unit_first (drop a.at a.text.now))
+coded : (u : tie.After-unit_code-c) → let a = u.before.before.before.args in starts_suffix u.unit_code-c.result ≡ starts_suffix (first (chars (drop a.at a.text.now)))
+coded u = let a = u.before.before.before.args in ap starts_suffix (u.unit_code-c.ensures ∙ ap unit_code u.before.unit_at.ensures ∙ unit_first (drop a.at a.text.now))
+
+returns-then-is_common_letter : tie.Need-returns-then-is_common_letter
+returns-then-is_common_letter c =
+    let u = c.before.before in
+    sym (ap (λ (b : Bool). b || eqb u.unit_code-c.result underscore) (c.before.is_common_letter.ensures c.if-is_common_letter.true)) ∙ coded u
 
 returns : tie.Need-returns
 returns c =
-    let u = c.before.before in
-    sym (ap (λ (b : Bool). b || eqb u.unit-code.result underscore) (c.before.is-common-letter.ensures c.if1.true)) ∙ coded u
-
-returns-2 : tie.Need-returns-2
-returns-2 c =
     let u = c.before.before.before in
-    ap (λ (b : Bool). b || eqb u.unit-code.result underscore) c.is-alphabetic.ensures ∙ coded u
+    ap (λ (b : Bool). b || eqb u.unit_code-c.result underscore) c.is_alphabetic.ensures ∙ coded u
 
-pub starts-suffix-spec : {M : Type 1} → statement M
-starts-suffix-spec = tie.close (tie.spec (λ c κs. search rules) (λ c κs. search rules) (λ c κs. search rules) returns (λ c κs. search rules) returns-2)
+pub starts_suffix_spec : {M : Type 1} → statement M
+starts_suffix_spec = tie.close (tie.spec (λ c κs. search rules) (λ c κs. search rules) (λ c κs. search rules) returns-then-is_common_letter (λ c κs. search rules) returns)

@@ -6,19 +6,19 @@ use Rattle.lexer.proofs.Runs.{step_taken, step_left}
 use Rattle.lexer.proofs.tokenizer.word_len.Statement.{statement}
 use Rattle.lexer.proofs.tokenizer.word_len.Tie as tie
 
-returns : tie.Need-returns
-returns c =
+returns-then-is_word_in : tie.Need-returns-then-is_word_in
+returns-then-is_word_in c =
     let t = c.before.before in
     let u = t.before.before in
     let x = u.before.before.args in
-    step_taken (word_with x.dollar) x.text.now x.at _ u.unit-at.ensures _ t.before.unit-code.ensures _ t.is-word-in.ensures _ c.unit-len.ensures (word_none x.dollar) c.before.if1.true
+    step_taken (word_with x.dollar) x.text.now x.at _ u.unit_at-u.ensures _ t.before.unit_code.ensures _ t.is_word_in.ensures _ c.unit_len.ensures (word_none x.dollar) c.before.if-is_word_in.true
 
-returns-2 : tie.Need-returns-2
-returns-2 c =
+returns-else-is_word_in : tie.Need-returns-else-is_word_in
+returns-else-is_word_in c =
     let t = c.before in
     let u = t.before.before in
     let x = u.before.before.args in
-    step_left (word_with x.dollar) x.text.now x.at _ u.unit-at.ensures _ t.before.unit-code.ensures _ t.is-word-in.ensures c.if1.false
+    step_left (word_with x.dollar) x.text.now x.at _ u.unit_at-u.ensures _ t.before.unit_code.ensures _ t.is_word_in.ensures c.if-is_word_in.false
 
-pub word-len-spec : {M : Type 1} → statement M
-word-len-spec = tie.close (tie.spec (λ c κs. search rules) (λ c κs. search rules) (λ c κs. search rules) (λ c κs. search rules) returns returns-2)
+pub word_len_spec : {M : Type 1} → statement M
+word_len_spec = tie.close (tie.spec (λ c κs. search rules) (λ c κs. search rules) (λ c κs. search rules) (λ c κs. search rules) returns-then-is_word_in returns-else-is_word_in)

@@ -3,12 +3,12 @@ use borrow.Author.Rules.{rules}
 use Rattle.lists.proofs.listing.count_more.Statement.{statement}
 use Rattle.lists.proofs.listing.count_more.Tie as tie
 
-pub count-more-spec : {M : Type 1} → statement M
-count-more-spec =
+pub count_more_spec : {M : Type 1} → statement M
+count_more_spec =
     tie.close
     (tie.spec
     (λ c. search rules)
     (λ c κs. let p = c.before.before.requires in (p.0, p.2))
     (λ c. search rules)
-    (λ c κs. let p = c.before.before.before.before.before.requires in (p.0, p.1, p.2, p.3, c.before.before.look-ahead.ensures))
-    (λ c. c.count-some.ensures))
+    (λ c κs. let p = c.before.before.before.before.before.requires in (p.0, p.1, p.2, p.3, c.before.before.look_ahead-until.ensures))
+    (λ c. c.count_some.ensures))

@@ -3,13 +3,13 @@ use borrow.Author.Rules.{rules}
 use Rattle.lists.proofs.listing.fill_more.Statement.{statement}
 use Rattle.lists.proofs.listing.fill_more.Tie as tie
 
-pub fill-more-spec : {M : Type 1} → statement M
-fill-more-spec =
+pub fill_more_spec : {M : Type 1} → statement M
+fill_more_spec =
     tie.close
     (tie.spec
     (λ c. search rules)
     (λ c κs. let p = c.before.before.before.requires in (p.0, p.2))
     (λ c. search rules)
-    (λ c κs. let p = c.before.before.before.before.before.before.before.requires in (p.0, p.1, p.2, p.3, c.before.before.before.look-ahead.ensures))
+    (λ c κs. let p = c.before.before.before.before.before.before.before.requires in (p.0, p.1, p.2, p.3, c.before.before.before.look_ahead-until.ensures))
     (λ c. search rules)
-    (λ c. c.before.before.fill-some.ensures))
+    (λ c. c.before.before.fill_some.ensures))

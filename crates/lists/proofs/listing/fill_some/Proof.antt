@@ -21,129 +21,129 @@ use Rattle.lists.proofs.Packing.{packs_none, packs_room, packs_more}
 use Rattle.lists.proofs.listing.fill_some.Statement.{statement}
 use Rattle.lists.proofs.listing.fill_some.Tie as tie
 
-abbrev invariant-loop : tie.invariant-loop
-invariant-loop text choice list₀ until lone leads stop₀ wasted₀ shy₀ base₀ bits₀ bytes₀ cursor₀ list stop wasted shy base bits bytes cursor =
+abbrev invariant-loop-cursor : tie.invariant-loop-cursor
+invariant-loop-cursor text choice list₀ until lone leads stop₀ wasted₀ shy₀ base₀ bits₀ bytes₀ cursor₀ list stop wasted shy base bits bytes cursor =
     Goes text choice.position cursor₀ stop wasted base bits cursor × Packs list₀ bytes₀ (chosen choice text cursor₀) list bytes (chosen choice text cursor)
 
-abbrev decreases-loop : tie.decreases-loop
-decreases-loop text choice list₀ until lone leads stop₀ wasted₀ shy₀ base₀ bits₀ bytes₀ cursor₀ list stop wasted shy base bits bytes cursor = length text - cursor
+abbrev decreases-loop-cursor : tie.decreases-loop-cursor
+decreases-loop-cursor text choice list₀ until lone leads stop₀ wasted₀ shy₀ base₀ bits₀ bytes₀ cursor₀ list stop wasted shy base bits bytes cursor = length text - cursor
 
 -- a turn of the loop: where it starts
-module _ (t : tie.In-loop invariant-loop decreases-loop) where
-  abbrev st : tie.Start invariant-loop decreases-loop
+module _ (t : tie.In-loop-cursor invariant-loop-cursor decreases-loop-cursor) where
+  abbrev st : tie.Start invariant-loop-cursor decreases-loop-cursor
   st = t.before.before.before.before.before.before
 
   abbrev s : List ℕ
   s = st.args.text.now
 
   abbrev i : ℕ
-  i = t.before.loop.cursor
+  i = t.before.loop-cursor.cursor
 
-  goes : Goes s st.args.choice.position st.args.from.cursor t.before.loop.stop t.before.loop.wasted t.before.loop.base t.before.loop.bits i
-  goes = t.before.loop.inv.0
+  goes : Goes s st.args.choice.position st.args.from.cursor t.before.loop-cursor.stop t.before.loop-cursor.wasted t.before.loop-cursor.base t.before.loop-cursor.bits i
+  goes = t.before.loop-cursor.inv.0
 
   inside : (i < st.args.choice.position) × (i < length s)
-  inside = goes_inside s _ _ _ _ _ _ i goes st.pre.1 t.loop-test.taken
+  inside = goes_inside s _ _ _ _ _ _ i goes st.pre.1 t.loop-cursor-test.taken-token
 
 -- the edges that are left, found or kept
-lefts : (j : tie.Joined1 invariant-loop decreases-loop) → let t = j.before in Left (s t) (i t) j.if1.base j.if1.bits
-lefts j = ⊎_elim (λ w. rw (w.2, w.3) w.1.ensures) (λ w. rw (w.1, w.2) (goes j.before).left) j.if1.branch
+lefts : (j : tie.Joined-bits-eq0 invariant-loop-cursor decreases-loop-cursor) → let t = j.before in Left (s t) (i t) j.if-bits-eq0.base j.if-bits-eq0.bits
+lefts j = ⊎_elim (λ w. rw (w.2, w.3) w.1.ensures) (λ w. rw (w.1, w.2) (goes j.before).left) j.if-bits-eq0.branch-raw
 
 -- the token, told or read
-settled : (n : tie.Joined2 invariant-loop decreases-loop) → let j = n.before.before.before.before in let t = j.before in Taken (s t) (i t) j.if1.base n.if2.token
+settled : (n : tie.Joined-token-eq-NoToken invariant-loop-cursor decreases-loop-cursor) → let j = n.before.before.before.before in let t = j.before in Taken (s t) (i t) j.if-bits-eq0.base n.if-token-eq-NoToken.token
 settled n =
     let j = n.before.before.before.before in
     let t = j.before in
-    let is : Next → Type 0 = Taken (s t) (i t) j.if1.base in
+    let is : Next → Type 0 = Taken (s t) (i t) j.if-bits-eq0.base in
     ⊎_elim
     (λ w. subst is (sym w.10) (w.2.ensures (s t) (i t) (st t).requires.0 (inside t).1 w.1.ensures (lefts j)))
     (⊎_elim
     (λ w. subst is (sym w.10) (w.2.ensures (s t) (i t) (st t).requires.0 (inside t).1 w.1.ensures (lefts j)))
     (⊎_elim
     (λ w. subst is (sym w.9) (w.2.ensures (s t) (i t) (st t).requires.0 (inside t).1 w.1.ensures (lefts j)))
-    (λ w. subst is (sym w.4) (n.before.before.plain.ensures w.0.left))))
-    n.if2.branch
+    (λ w. subst is (sym w.4) (n.before.before.plain-token.ensures w.0.left))))
+    n.if-token-eq-NoToken.branch-raw
 
 -- where the walk stops then
-spared : (n : tie.Joined2 invariant-loop decreases-loop) → let t = n.before.before.before.before.before in Spared (st t).args.choice.position n.if2.stop n.if2.wasted
+spared : (n : tie.Joined-token-eq-NoToken invariant-loop-cursor decreases-loop-cursor) → let t = n.before.before.before.before.before in Spared (st t).args.choice.position n.if-token-eq-NoToken.stop n.if-token-eq-NoToken.wasted
 spared n =
     let t = n.before.before.before.before.before in
     let g = (goes t).spared in
     ⊎_elim
     (λ w. rw w.7 (omega arith, λ l. absurd (omega arith)))
     (⊎_elim (λ w. rw (w.7, w.8) (g.0, λ l. omega (arith, w.6.left))) (⊎_elim (λ w. rw (w.6, w.7) g) (λ w. rw (w.1, w.2) g)))
-    n.if2.branch
+    n.if-token-eq-NoToken.branch-raw
 
-module _ (n : tie.Joined2 invariant-loop decreases-loop) where
+module _ (n : tie.Joined-token-eq-NoToken invariant-loop-cursor decreases-loop-cursor) where
   abbrev r : Lexed
-  r = record { kind = n.if2.token.kind; end = n.if2.token.end }
+  r = record { kind = n.if-token-eq-NoToken.token.kind; end = n.if-token-eq-NoToken.token.end }
 
   -- a turn moves the cursor on, and not past the end
   moves : (i n.before.before.before.before.before < r.end) × (r.end ≤ length (s n.before.before.before.before.before))
-  moves = let t = n.before.before.before.before.before in goes_moves (s t) _ _ _ _ _ _ (i t) (goes t) (st t).pre.1 t.loop-test.taken n.before.before.before.before.if1.base n.if2.token (settled n)
+  moves = let t = n.before.before.before.before.before in goes_moves (s t) _ _ _ _ _ _ (i t) (goes t) (st t).pre.1 t.loop-cursor-test.taken-token n.before.before.before.before.if-bits-eq0.base n.if-token-eq-NoToken.token (settled n)
 
-  on : let t = n.before.before.before.before.before in Goes (s t) (st t).args.choice.position (st t).args.from.cursor n.if2.stop n.if2.wasted n.before.before.before.before.if1.base n.if2.token.bits r.end
-  on = let t = n.before.before.before.before.before in goes_on (s t) _ _ _ _ _ _ (i t) (goes t) (st t).pre.1 t.loop-test.taken n.before.before.before.before.if1.base n.if2.token (settled n) _ _ (spared n)
+  on : let t = n.before.before.before.before.before in Goes (s t) (st t).args.choice.position (st t).args.from.cursor n.if-token-eq-NoToken.stop n.if-token-eq-NoToken.wasted n.before.before.before.before.if-bits-eq0.base n.if-token-eq-NoToken.token.bits r.end
+  on = let t = n.before.before.before.before.before in goes_on (s t) _ _ _ _ _ _ (i t) (goes t) (st t).pre.1 t.loop-cursor-test.taken-token n.before.before.before.before.if-bits-eq0.base n.if-token-eq-NoToken.token (settled n) _ _ (spared n)
 
 -- a token that is kept is the first of those left
-kept : (c : tie.Then5 invariant-loop decreases-loop) → let n = c.before.before in let t = n.before.before.before.before.before in let a = (st t).args in
-    Packs a.list.now a.from.bytes (chosen a.choice (s t) a.from.cursor) n.before.before.before.before.before.before.loop.list n.before.before.before.before.before.before.loop.bytes (token (r n).kind (i t) (r n).end ∷ chosen a.choice (s t) (r n).end)
+kept : (c : tie.Then-keeps invariant-loop-cursor decreases-loop-cursor) → let n = c.before.before in let t = n.before.before.before.before.before in let a = (st t).args in
+    Packs a.list-1.now a.from.bytes (chosen a.choice (s t) a.from.cursor) n.before.before.before.before.before.before.loop-cursor.list-1 n.before.before.before.before.before.before.loop-cursor.bytes (token (r n).kind (i t) (r n).end ∷ chosen a.choice (s t) (r n).end)
 kept c =
     let n = c.before.before in
     let t = n.before.before.before.before.before in
     subst (Packs _ _ _ _ _)
-    (chosen_keep (st t).args.choice (s t) (i t) (r n) (settled n).0 (st t).requires.1 (inside t).0 (sym c.before.keeps.ensures ∙ c.if5.true))
-    n.before.before.before.before.before.before.loop.invariant.1
+    (chosen_keep (st t).args.choice (s t) (i t) (r n) (settled n).0 (st t).requires.1 (inside t).0 (sym c.before.keeps.ensures ∙ c.if-keeps.true))
+    n.before.before.before.before.before.before.loop-cursor.invariant.1
 
-room : (c : tie.Then5 invariant-loop decreases-loop) → let l = c.before.before.before.before.before.before.before.before in l.loop.bytes + token_bytes ≤ length l.loop.list
+room : (c : tie.Then-keeps invariant-loop-cursor decreases-loop-cursor) → let l = c.before.before.before.before.before.before.before.before in l.loop-cursor.bytes + token_bytes ≤ length l.loop-cursor.list-1
 room c = packs_room _ _ _ _ _ _ _ (kept c) (st c.before.before.before.before.before.before.before).pre.3
 
-loop-again : tie.Need-loop-preserved invariant-loop decreases-loop
-loop-again c =
+loop-cursor-preserved-then-keeps : tie.Need-loop-cursor-preserved-then-keeps invariant-loop-cursor decreases-loop-cursor
+loop-cursor-preserved-then-keeps c =
     let p = c.before.before in
     let k = p.before.before in
-    (on k.before.before, packs_more _ _ _ _ _ _ _ (kept k) (room k) _ _ p.put-token.ensures.0 p.put-token.ensures.1)
+    (on k.before.before, packs_more _ _ _ _ _ _ _ (kept k) (room k) _ _ p.put_token-bytes.ensures.0 p.put_token-bytes.ensures.1)
 
-loop-again-2 : tie.Need-loop-preserved-2 invariant-loop decreases-loop
-loop-again-2 c =
+loop-cursor-preserved : tie.Need-loop-cursor-preserved invariant-loop-cursor decreases-loop-cursor
+loop-cursor-preserved c =
     let n = c.before.before in
     let t = n.before.before.before.before.before in (
       on n,
       subst (Packs _ _ _ _ _)
-          (chosen-drop (st t).args.choice (s t) (i t) (r n) (settled n).0 (st t).requires.1 (inside t).0 (sym c.before.keeps.ensures ∙ c.if5.false))
-          n.before.before.before.before.before.before.loop.invariant.1,
+          (chosen-drop (st t).args.choice (s t) (i t) (r n) (settled n).0 (st t).requires.1 (inside t).0 (sym c.before.keeps.ensures ∙ c.if-keeps.false))
+          n.before.before.before.before.before.before.loop-cursor.invariant.1,
     )
 
-returns : tie.Need-returns invariant-loop decreases-loop
+returns : tie.Need-returns invariant-loop-cursor decreases-loop-cursor
 returns c =
-    let v = c.before.loop.invariant in
+    let v = c.before.loop-cursor.invariant in
     record {
-      moves = record { later = v.0.later; inside = v.0.inside; moved = goes_moved _ _ _ _ _ _ _ _ v.0 c.loop-test.false };
+      moves = record { later = v.0.later; inside = v.0.inside; moved = goes_moved _ _ _ _ _ _ _ _ v.0 c.loop-cursor-test.false };
       packs = v.1;
     }
 
-pub fill-some-spec : {M : Type 1} → statement M
-fill-some-spec =
+pub fill_some_spec : {M : Type 1} → statement M
+fill_some_spec =
     tie.close
     (tie.spec
-    invariant-loop
-    decreases-loop
+    invariant-loop-cursor
+    decreases-loop-cursor
     (λ c κs. search rules)
     (λ c. let p = c.before.before.before.before.requires in (goes_first _ _ _ p.2, packs_none _ _ _))
     (λ c κs. (goes c.before).inside)
-    (λ c κs. let t = c.before.before in (c.before.before.before.before.leads.ensures, (st t).requires.0, (inside t).1, lefts c.before))
+    (λ c κs. let t = c.before.before in (c.before.before.before.before.leads-leads.ensures, (st t).requires.0, (inside t).1, lefts c.before))
     (λ c κs. let t = c.before.before.before.before.before in let p = (st t).requires in (p.0, (inside t).1, marked_later (s t) _ _ _ (st t).args.lone.now (goes t).later p.4))
     (λ c κs. search rules)
-    (λ c κs. let j = c.before.before.before.before.before.before in let t = j.before in let m = c.taken.ensures (s t) (i t) (st t).requires.0 (inside t).1 c.before.read.ensures (lefts j) in omega (arith, goes_moves (s t) _ _ _ _ _ _ (i t) (goes t) (st t).requires.1 t.loop-test.true _ _ m))
+    (λ c κs. let j = c.before.before.before.before.before.before in let t = j.before in let m = c.taken-token.ensures (s t) (i t) (st t).requires.0 (inside t).1 c.before.read-lexed.ensures (lefts j) in omega (arith, goes_moves (s t) _ _ _ _ _ _ (i t) (goes t) (st t).requires.1 t.loop-cursor-test.true _ _ m))
     (λ c κs. search rules)
-    (λ c. let t = c.before.before.before.before.before.before.before.before.before.before in omega (arith, c.before.wasted-by.ensures.1, (st t).requires.0, goes_spared (s t) _ _ _ _ _ _ (i t) (goes t) (st t).requires.1 t.loop-test.true))
+    (λ c. let t = c.before.before.before.before.before.before.before.before.before.before in omega (arith, c.before.wasted_by-more.ensures.1, (st t).requires.0, goes_spared (s t) _ _ _ _ _ _ (i t) (goes t) (st t).requires.1 t.loop-cursor-test.true))
     (λ c κs. search rules)
     (λ c. let n = c.before.before.before in omega (arith, moves n, (st n.before.before.before.before.before).pre.0))
     (λ c. let n = c.before.before.before in omega (arith, moves n, (st n.before.before.before.before.before).pre.0))
     (λ c κs. room c.before)
     (λ c. omega (arith, moves c.before.before.before.before.before.before))
-    loop-again
+    loop-cursor-preserved-then-keeps
     (λ c. omega (arith, moves c.before.before))
-    loop-again-2
-    (λ c. c.before.loop.invariant.1.len)
+    loop-cursor-preserved
+    (λ c. c.before.loop-cursor.invariant.1.len)
     returns)

@@ -7,17 +7,17 @@ use Rattle.rules.specs.Utf8.{valid_length}
 use Rattle.lists.proofs.listing.plan_chosen.Statement.{statement}
 use Rattle.lists.proofs.listing.plan_chosen.Tie as tie
 
+returns-then-valid-text : tie.Need-returns-then-valid-text
+returns-then-valid-text c =
+    let s = c.before.before.before.args.text.now in
+    let v = c.before.valid_length-valid.ensures in
+    (rw (ne_eqb (valid_length s) (length s) (λ e. c.if-valid-text.true (v ∙ e)), v), refl)
+
 returns : tie.Need-returns
 returns c =
-    let s = c.before.before.before.args.text.now in
-    let v = c.before.valid-length.ensures in
-    (rw (ne_eqb (valid_length s) (length s) (λ e. c.if1.true (v ∙ e)), v), refl)
-
-returns-2 : tie.Need-returns-2
-returns-2 c =
     let e = c in
     let s = e.before.before.before in
-    (rw (eq-eqb _ _ (sym e.before.valid-length.ensures ∙ e.if1.false)), s.requires)
+    (rw (eq-eqb _ _ (sym e.before.valid_length-valid.ensures ∙ e.if-valid-text.false)), s.requires)
 
-pub plan-chosen-spec : {M : Type 1} → statement M
-plan-chosen-spec = tie.close (tie.spec (λ c κs. search rules) returns returns-2)
+pub plan_chosen_spec : {M : Type 1} → statement M
+plan_chosen_spec = tie.close (tie.spec (λ c κs. search rules) returns-then-valid-text returns)

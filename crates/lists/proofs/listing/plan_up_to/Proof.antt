@@ -12,39 +12,39 @@ use Rattle.lists.proofs.Choosing.{up_to_chosen}
 use Rattle.lists.proofs.listing.plan_up_to.Statement.{statement}
 use Rattle.lists.proofs.listing.plan_up_to.Tie as tie
 
-returns : tie.Need-returns
+returns-then-settings-gt-LEAN : tie.Need-returns-then-settings-gt-LEAN
 unfolding up_to_plan
-returns c = (rw (lt-ltb lean c.before.before.before.args.settings.mode c.if1.true), refl)
+returns-then-settings-gt-LEAN c = (rw (lt-ltb lean c.before.before.before.args.settings.mode c.if-settings-gt-LEAN.true), refl)
 
-returns-2 : tie.Need-returns-2
+returns-then-text-max_query_size : tie.Need-returns-then-text-max_query_size
 unfolding up_to_plan
-returns-2 c =
+returns-then-text-max_query_size c =
     let e = c.before.before in
     let a = e.before.before.before.args in
-    let l = rw c.before.max-query-size.ensures at c.if2.true in
-    (rw (le-ltb lean a.settings.mode e.if1.false, lt-ltb max_query_size (length a.text.now) l), refl)
+    let l = rw c.before.max_query_size.ensures at c.if-text-max_query_size.true in
+    (rw (le-ltb lean a.settings.mode e.if-settings-gt-LEAN.false, lt-ltb max_query_size (length a.text.now) l), refl)
 
-plan-chosen-requires : tie.Need-plan-chosen-requires
-plan-chosen-requires c κs =
+plan_chosen-requires : tie.Need-plan_chosen-requires
+plan_chosen-requires c κs =
     let m = c.before.before.before in
-    (rw m.before.max-query-size.ensures at m.if2.false, ⊎_elim (λ w. omega arith) (λ w. omega arith) c.if3.branch)
+    (rw m.before.max_query_size.ensures at m.if-text-max_query_size.false, ⊎_elim (λ w. omega arith) (λ w. omega arith) c.if-settings-text.branch-raw)
 
-returns-3 : tie.Need-returns-3
+returns : tie.Need-returns
 unfolding up_to_plan
-returns-3 c =
+returns c =
     let j = c.before in
     let m = j.before.before.before in
     let e = m.before.before in
     let a = e.before.before.before.args in
-    let l = rw m.before.max-query-size.ensures at m.if2.false in (
-      c.plan-chosen.ensures.0
+    let l = rw m.before.max_query_size.ensures at m.if-text-max_query_size.false in (
+      c.plan_chosen.ensures.0
           ∙ rw (
-            le-ltb lean a.settings.mode e.if1.false,
+            le-ltb lean a.settings.mode e.if-settings-gt-LEAN.false,
             le-ltb max_query_size (length a.text.now) l,
-            up_to_chosen a.settings.mode a.settings.position j.if3.position a.text.now (⊎_elim (λ w. inl w.1) (λ w. inr (w.1, w.0.left)) j.if3.branch),
+            up_to_chosen a.settings.mode a.settings.position j.if-settings-text.position a.text.now (⊎_elim (λ w. inl w.1) (λ w. inr (w.1, w.0.left)) j.if-settings-text.branch-raw),
           ),
-      c.plan-chosen.ensures.1,
+      c.plan_chosen.ensures.1,
     )
 
-pub plan-up-to-spec : {M : Type 1} → statement M
-plan-up-to-spec = tie.close (tie.spec returns (λ c κs. search rules) returns-2 plan-chosen-requires returns-3)
+pub plan_up_to_spec : {M : Type 1} → statement M
+plan_up_to_spec = tie.close (tie.spec returns-then-settings-gt-LEAN (λ c κs. search rules) returns-then-text-max_query_size plan_chosen-requires returns)

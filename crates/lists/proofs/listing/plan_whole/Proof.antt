@@ -10,29 +10,29 @@ use Rattle.lists.proofs.Choosing.{whole_chosen}
 use Rattle.lists.proofs.listing.plan_whole.Statement.{statement}
 use Rattle.lists.proofs.listing.plan_whole.Tie as tie
 
-returns : tie.Need-returns
+returns-then-settings-gt-LEAN : tie.Need-returns-then-settings-gt-LEAN
 unfolding whole_plan
-returns c = (rw (lt-ltb lean c.before.before.before.args.settings.mode c.if1.true), refl)
+returns-then-settings-gt-LEAN c = (rw (lt-ltb lean c.before.before.before.args.settings.mode c.if-settings-gt-LEAN.true), refl)
 
-returns-2 : tie.Need-returns-2
+returns-then-text-max_query_size : tie.Need-returns-then-text-max_query_size
 unfolding whole_plan
-returns-2 c =
+returns-then-text-max_query_size c =
     let e = c.before.before in
     let a = e.before.before.before.args in
-    let l = rw c.before.max-query-size.ensures at c.if2.true in
-    (rw (le-ltb lean a.settings.mode e.if1.false, lt-ltb max_query_size (length a.text.now) l), tt)
+    let l = rw c.before.max_query_size.ensures at c.if-text-max_query_size.true in
+    (rw (le-ltb lean a.settings.mode e.if-settings-gt-LEAN.false, lt-ltb max_query_size (length a.text.now) l), tt)
 
-returns-3 : tie.Need-returns-3
+returns : tie.Need-returns
 unfolding whole_plan
-returns-3 c =
+returns c =
     let m = c.before.before in
     let e = m.before.before in
     let a = e.before.before.before.args in
-    let l = rw m.before.max-query-size.ensures at m.if2.false in (
-      c.plan-chosen.ensures.0
-          ∙ rw (le-ltb lean a.settings.mode e.if1.false, le-ltb max_query_size (length a.text.now) l, whole_chosen a.settings.mode a.text.now),
-      c.plan-chosen.ensures.1,
+    let l = rw m.before.max_query_size.ensures at m.if-text-max_query_size.false in (
+      c.plan_chosen.ensures.0
+          ∙ rw (le-ltb lean a.settings.mode e.if-settings-gt-LEAN.false, le-ltb max_query_size (length a.text.now) l, whole_chosen a.settings.mode a.text.now),
+      c.plan_chosen.ensures.1,
     )
 
-pub plan-whole-spec : {M : Type 1} → statement M
-plan-whole-spec = tie.close (tie.spec returns (λ c κs. search rules) returns-2 (λ c κs. search rules) returns-3)
+pub plan_whole_spec : {M : Type 1} → statement M
+plan_whole_spec = tie.close (tie.spec returns-then-settings-gt-LEAN (λ c κs. search rules) returns-then-text-max_query_size (λ c κs. search rules) returns)

@@ -7,27 +7,27 @@ use Rattle.lists.specs.Plans.{plan_of, Follows}
 use Rattle.lists.proofs.listing.store.Statement.{statement}
 use Rattle.lists.proofs.listing.store.Tie as tie
 
-store-chosen-requires : tie.Need-store-chosen-requires
-store-chosen-requires c κs =
+store_chosen-requires : tie.Need-store_chosen-requires
+store_chosen-requires c κs =
     let s = c.before.before.before.before.before.before in
-    subst (λ (p : Plan). Follows p s.args.text.now) c.before.before.plan2.given.1 s.requires
+    subst (λ (p : Plan). Follows p s.args.text.now) c.before.before.plan-in-List-1.given.1 s.requires
 
-returns : tie.Need-returns
-returns c =
+returns-in-Refused : tie.Need-returns-in-Refused
+returns-in-Refused c =
     let a = c.before.before.before.before.before.args in
-    ap (λ (p : Plan). packed_by (plan_of p a.text.now) a.list.now) (sym c.before.plan.given.1)
+    ap (λ (p : Plan). packed_by (plan_of p a.text.now) a.list-1.now) (sym c.before.plan-1.given.1)
 
-returns-2 : tie.Need-returns-2
-returns-2 c =
+returns-in-TooLong : tie.Need-returns-in-TooLong
+returns-in-TooLong c =
     let r = c.before.before in
     let a = r.before.before.before.before.before.before.args in
-    r.store-too-long.ensures ∙ ap (λ (p : Plan). packed_by (plan_of p a.text.now) a.list.now) (sym r.before.before.enum_told.given.1)
+    r.store_too_long.ensures ∙ ap (λ (p : Plan). packed_by (plan_of p a.text.now) a.list-1.now) (sym r.before.before.enum_told-1.given.1)
 
-returns-3 : tie.Need-returns-3
-returns-3 c =
+returns-in-List : tie.Need-returns-in-List
+returns-in-List c =
     let r = c.before.before in
     let a = r.before.before.before.before.before.before.before.args in
-    r.store-chosen.ensures ∙ ap (λ (p : Plan). packed_by (plan_of p a.text.now) a.list.now) (sym r.before.before.before.plan2.given.1)
+    r.store_chosen.ensures ∙ ap (λ (p : Plan). packed_by (plan_of p a.text.now) a.list-1.now) (sym r.before.before.before.plan-in-List-1.given.1)
 
 pub store_spec : {M : Type 1} → statement M
 store_spec =
@@ -37,9 +37,9 @@ store_spec =
     (λ c. search rules)
     (λ c κs. search rules)
     (λ c. search rules)
-    store-chosen-requires
-    returns
+    store_chosen-requires
+    returns-in-Refused
     (λ c. search rules)
-    returns-2
+    returns-in-TooLong
     (λ c. search rules)
-    returns-3)
+    returns-in-List)

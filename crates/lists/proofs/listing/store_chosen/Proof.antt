@@ -11,36 +11,36 @@ use Rattle.lists.proofs.listing.store_chosen.Statement.{statement}
 use Rattle.lists.proofs.listing.store_chosen.Tie as tie
 
 -- past the test
-has_room : (c : tie.Else1) → let a = c.before.before.before.before.before.args in length (chosen a.choice a.text.now 0) ≤ room a.list.now
-has_room c = let l = rw c.before.before.token-bytes.ensures at c.if1.false in omega (arith, c.before.needed.ensures.0)
+has_room : (c : tie.Else-room-tokens) → let a = c.before.before.before.before.before.args in length (chosen a.choice a.text.now 0) ≤ room a.list-1.now
+has_room c = let l = rw c.before.before.token_bytes.ensures at c.if-room-tokens.false in omega (arith, c.before.needed-tokens.ensures.0)
 
-returns : tie.Need-returns
-returns c =
+returns-then-room-tokens : tie.Need-returns-then-room-tokens
+returns-then-room-tokens c =
     let a = c.before.before.before.before.before.args in
-    let n = c.before.needed.ensures.1 c.if1.true in
-    let l = rw c.before.before.token-bytes.ensures at c.if1.true in
-    stored-not (chosen a.choice a.text.now 0) Done a.list.now _ n (omega arith)
+    let n = c.before.needed-tokens.ensures.1 c.if-room-tokens.true in
+    let l = rw c.before.before.token_bytes.ensures at c.if-room-tokens.true in
+    stored-not (chosen a.choice a.text.now 0) Done a.list-1.now _ n (omega arith)
 
 fill-requires : tie.Need-fill-requires
 fill-requires c κs =
     let p = c.before.before.before.before.before.before.requires in
     (p.0, p.1, omega (arith, has_room c.before))
 
-returns-2 : tie.Need-returns-2
-returns-2 c =
+returns : tie.Need-returns
+returns c =
     let f = c.before.before in
     let e = f.before.before in
     let a = e.before.before.before.before.before.args in
-    stored_all (chosen a.choice a.text.now 0) Done a.list.now _ f.fill.ensures.0 _ (has_room e) f.fill.ensures.1
+    stored_all (chosen a.choice a.text.now 0) Done a.list-1.now _ f.fill.ensures.0 _ (has_room e) f.fill.ensures.1
 
-pub store-chosen-spec : {M : Type 1} → statement M
-store-chosen-spec =
+pub store_chosen_spec : {M : Type 1} → statement M
+store_chosen_spec =
     tie.close
     (tie.spec
     (λ c κs. search rules)
     (λ c. search rules)
     (λ c κs. search rules)
-    returns
+    returns-then-room-tokens
     fill-requires
     (λ c. search rules)
-    returns-2)
+    returns)

@@ -10,8 +10,8 @@ same-token : {a b c a' b' c' : ℕ} → a ≡ a' → b ≡ b' → c ≡ c' → �
 same-token p q r i = record { kind = p i; start = q i; end = r i }
 
 returns : tie.Need-returns
-returns c = same-token c.before.before.get-u32.ensures c.before.get-u322.ensures c.get-u323.ensures
+returns c = same-token c.before.before.get_u32-kind.ensures c.before.get_u32-start.ensures c.get_u32-end.ensures
 
-pub get-token-spec : {M : Type 1} → statement M
-get-token-spec =
+pub get_token_spec : {M : Type 1} → statement M
+get_token_spec =
     tie.close (tie.spec (λ c κs. search rules) (λ c. search rules) (λ c κs. search rules) (λ c. search rules) (λ c κs. search rules) returns)

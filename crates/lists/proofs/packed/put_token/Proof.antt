@@ -14,11 +14,11 @@ returns c =
     let c₁ = c₂.before.before.before.before in
     let a = c₁.before.before.before.args in (
       omega arith,
-      put_both a.list.now _ _ (bytes_of32 a.kind ++ bytes_of32 a.start) (bytes_of32 a.end) _ _
-          (put_both a.list.now _ _ (bytes_of32 a.kind) (bytes_of32 a.start) _ _ c₁.put-u32.ensures.1 c₁.put-u32.ensures.0 c₂.put-u322.ensures.1)
-          (omega arith) c₃.put-u323.ensures.1,
+      put_both a.list-1.now _ _ (bytes_of32 a.kind ++ bytes_of32 a.start) (bytes_of32 a.end) _ _
+          (put_both a.list-1.now _ _ (bytes_of32 a.kind) (bytes_of32 a.start) _ _ c₁.put_u32-at.ensures.1 c₁.put_u32-at.ensures.0 c₂.put_u32-at-2.ensures.1)
+          (omega arith) c₃.put_u32.ensures.1,
     )
 
-pub put-token-spec : {M : Type 1} → statement M
-put-token-spec =
+pub put_token_spec : {M : Type 1} → statement M
+put_token_spec =
     tie.close (tie.spec (λ c κs. search rules) (λ c κs. search rules) (λ c κs. search rules) (λ c. search rules) returns)

@@ -10,8 +10,8 @@ use Rattle.lists.proofs.packed.put_u32.Tie as tie
 returns : tie.Need-returns
 returns c = (refl, simp (add-one, add-two, add-three))
 
-pub put-u32-spec : {M : Type 1} → statement M
-put-u32-spec =
+pub put_u32_spec : {M : Type 1} → statement M
+put_u32_spec =
     tie.close
     (tie.spec
     (λ c. search rules)

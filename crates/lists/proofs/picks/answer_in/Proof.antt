@@ -15,34 +15,34 @@ use Rattle.lists.proofs.Picking.{answered_in}
 use Rattle.lists.proofs.picks.answer_in.Statement.{statement}
 use Rattle.lists.proofs.picks.answer_in.Tie as tie
 
-count-requires : tie.Need-count-requires
-count-requires c κs =
+count-n-requires : tie.Need-count-n-requires
+count-n-requires c κs =
     let s = c.before.before.before.before in
-    subst (λ (p : Plan). Follows p s.args.text.now) c.before.plan2.given.1 s.requires
+    subst (λ (p : Plan). Follows p s.args.text.now) c.before.plan-in-List-1.given.1 s.requires
 
-returns : tie.Need-returns
-returns c =
+returns-in-Refused : tie.Need-returns-in-Refused
+returns-in-Refused c =
     let s = c.before.before.before.before in
-    let e = c.before.plan.given.1 in
-    subst (λ (p : Plan). Answered c.before.plan.given.0.0 (outcome (plan_of p s.args.text.now) s.args.room)) (sym e) ((refl, refl), subst (λ (p : Plan). Follows p s.args.text.now) e s.requires)
+    let e = c.before.plan-1.given.1 in
+    subst (λ (p : Plan). Answered c.before.plan-1.given.0.0 (outcome (plan_of p s.args.text.now) s.args.room)) (sym e) ((refl, refl), subst (λ (p : Plan). Follows p s.args.text.now) e s.requires)
 
-returns-2 : tie.Need-returns-2
-returns-2 c =
+returns-in-TooLong : tie.Need-returns-in-TooLong
+returns-in-TooLong c =
     let a = c.before.before.before.before.before.args in
-    let e = c.before.before.enum_told.given.1 in
-    subst (λ (p : Plan). Answered c.answer-of.result (outcome (plan_of p a.text.now) a.room)) (sym e)
-    (answered_in TwoTokens c.before.fitted.result too_long_list TooLong a.room 2 c.answer-of.result refl (refl, refl) refl (c.before.fitted.ensures ∙ ap (cond (ltb a.room 2) (Refused (NoRoom 2))) e) c.answer-of.ensures)
+    let e = c.before.before.enum_told-1.given.1 in
+    subst (λ (p : Plan). Answered c.answer_of.result (outcome (plan_of p a.text.now) a.room)) (sym e)
+    (answered_in TwoTokens c.before.fitted.result too_long_list TooLong a.room 2 c.answer_of.result refl (refl, refl) refl (c.before.fitted.ensures ∙ ap (cond (ltb a.room 2) (Refused (NoRoom 2))) e) c.answer_of.ensures)
 
-returns-3 : tie.Need-returns-3
-returns-3 c =
+returns-in-List : tie.Need-returns-in-List
+returns-in-List c =
     let a = c.before.before.before.before.before.before.before.args in
-    let k = c.before.before.before.before.plan2.given in
-    let n = c.before.before.count in
-    subst (λ (p : Plan). Answered c.answer-of2.result (outcome (plan_of p a.text.now) a.room)) (sym k.1)
-    (answered_in (Listing k.0.0) c.before.fitted2.result (chosen k.0.0 a.text.now 0) Done a.room n.result c.answer-of2.result n.ensures (refl, refl) refl c.before.fitted2.ensures c.answer-of2.ensures)
+    let k = c.before.before.before.before.plan-in-List-1.given in
+    let n = c.before.before.count-n in
+    subst (λ (p : Plan). Answered c.answer_of-in-List.result (outcome (plan_of p a.text.now) a.room)) (sym k.1)
+    (answered_in (Listing k.0.0) c.before.fitted-in-List.result (chosen k.0.0 a.text.now 0) Done a.room n.result c.answer_of-in-List.result n.ensures (refl, refl) refl c.before.fitted-in-List.ensures c.answer_of-in-List.ensures)
 
-pub answer-in-spec : {M : Type 1} → statement M
-answer-in-spec =
+pub answer_in_spec : {M : Type 1} → statement M
+answer_in_spec =
     tie.close
     (tie.spec
     (λ c. search rules)
@@ -50,9 +50,9 @@ answer-in-spec =
     (λ c κs. search rules)
     (λ c κs. search rules)
     (λ c. search rules)
-    count-requires
+    count-n-requires
     (λ c κs. search rules)
     (λ c κs. search rules)
-    returns
-    returns-2
-    returns-3)
+    returns-in-Refused
+    returns-in-TooLong
+    returns-in-List)

@@ -6,11 +6,11 @@ use Rattle.lists.specs.Picks.{answer_by}
 use Rattle.lists.proofs.picks.answer_of.Statement.{statement}
 use Rattle.lists.proofs.picks.answer_of.Tie as tie
 
-returns-2 : tie.Need-returns-2
-returns-2 c = let a = c.before.before.args in ap (λ (p : Plan). answer_by p a.tokens) (sym c.enum_told.given.1)
+returns-in-TooLong : tie.Need-returns-in-TooLong
+returns-in-TooLong c = let a = c.before.before.args in ap (λ (p : Plan). answer_by p a.tokens) (sym c.enum_told-1.given.1)
 
-returns-3 : tie.Need-returns-3
-returns-3 c = let a = c.before.before.args in ap (λ (p : Plan). answer_by p a.tokens) (sym c.enum-told2.given.1)
+returns-in-List : tie.Need-returns-in-List
+returns-in-List c = let a = c.before.before.args in ap (λ (p : Plan). answer_by p a.tokens) (sym c.enum_told-in-List-1.given.1)
 
-pub answer-of-spec : {M : Type 1} → statement M
-answer-of-spec = tie.close (tie.spec (λ c. search rules) (λ c. search rules) (λ c. search rules) (λ c. search rules) returns-2 returns-3)
+pub answer_of_spec : {M : Type 1} → statement M
+answer_of_spec = tie.close (tie.spec (λ c. search rules) (λ c. search rules) (λ c. search rules) (λ c. search rules) returns-in-TooLong returns-in-List)

@@ -16,30 +16,30 @@ use Rattle.lists.proofs.Picking.{fits_refused, fits_in}
 use Rattle.lists.proofs.picks.fit.Statement.{statement}
 use Rattle.lists.proofs.picks.fit.Tie as tie
 
-needed-requires : tie.Need-needed-requires
-needed-requires c κs =
+needed-n-requires : tie.Need-needed-n-requires
+needed-n-requires c κs =
     let s = c.before.before.before.before in
-    subst (λ (p : Plan). Follows p s.args.text.now) c.before.plan.given.1 s.requires
+    subst (λ (p : Plan). Follows p s.args.text.now) c.before.plan-1.given.1 s.requires
 
-returns : tie.Need-returns
-returns c =
+returns-in-Refused : tie.Need-returns-in-Refused
+returns-in-Refused c =
     let s = c.before.before.before in
-    let e = c.enum_told.given.1 in
+    let e = c.enum_told-1.given.1 in
     subst (λ (p : Plan). Fits p s.args.text.now (outcome (plan_of p s.args.text.now) s.args.room) s.args.room) (sym e)
     (fits_refused _ _ _ (subst (λ (p : Plan). Follows p s.args.text.now) e s.requires))
 
-returns-2 : tie.Need-returns-2
-returns-2 c =
+returns-in-TooLong : tie.Need-returns-in-TooLong
+returns-in-TooLong c =
     let s = c.before.before.before.before in
-    let e = c.before.enum-told2.given.1 in
+    let e = c.before.enum_told-in-TooLong-1.given.1 in
     fits_in _ TwoTokens _ _ too_long_list TooLong s.args.room 2 e s.requires refl refl (refl, refl) (omega arith) (λ h. refl) (c.fitted.ensures ∙ ap (cond (ltb s.args.room 2) (Refused (NoRoom 2))) e)
 
-returns-3 : tie.Need-returns-3
-returns-3 c =
+returns-in-List : tie.Need-returns-in-List
+returns-in-List c =
     let s = c.before.before.before.before.before.before in
-    let n = c.before.needed in
-    let k = c.before.before.before.plan.given.0.0 in
-    fits_in _ (Listing k) _ _ (chosen k s.args.text.now 0) Done s.args.room n.result c.before.before.before.plan.given.1 s.requires refl refl (refl, refl) n.ensures.0 n.ensures.1 c.fitted2.ensures
+    let n = c.before.needed-n in
+    let k = c.before.before.before.plan-1.given.0.0 in
+    fits_in _ (Listing k) _ _ (chosen k s.args.text.now 0) Done s.args.room n.result c.before.before.before.plan-1.given.1 s.requires refl refl (refl, refl) n.ensures.0 n.ensures.1 c.fitted-in-List.ensures
 
 pub fit_spec : {M : Type 1} → statement M
 fit_spec =
@@ -49,8 +49,8 @@ fit_spec =
     (λ c. search rules)
     (λ c κs. search rules)
     (λ c. search rules)
-    needed-requires
+    needed-n-requires
     (λ c κs. search rules)
-    returns
-    returns-2
-    returns-3)
+    returns-in-Refused
+    returns-in-TooLong
+    returns-in-List)

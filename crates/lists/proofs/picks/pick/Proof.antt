@@ -8,29 +8,29 @@ use Rattle.lists.proofs.Picking.{picks_none}
 use Rattle.lists.proofs.picks.pick.Statement.{statement}
 use Rattle.lists.proofs.picks.pick.Tie as tie
 
-pick-chosen-requires : tie.Need-pick-chosen-requires
-pick-chosen-requires c κs =
+pick_chosen-requires : tie.Need-pick_chosen-requires
+pick_chosen-requires c κs =
     let s = c.before.before.before.before.before.before in
-    let f = subst (λ (p : Plan). Follows p s.args.text.now) c.before.before.plan.given.1 s.requires.0 in
+    let f = subst (λ (p : Plan). Follows p s.args.text.now) c.before.before.plan-1.given.1 s.requires.0 in
     (f.0, f.1, s.requires.1)
 
-returns : tie.Need-returns
-returns c =
+returns-in-Refused : tie.Need-returns-in-Refused
+returns-in-Refused c =
     let s = c.before.before.before.before.before in
     let a = s.args in
-    picks_none a.text.now a.from c.ended.result a.lone.now (records_from a.from.plan a.text.now) c.ended.ensures (ap (λ (p : Plan). records_from p a.text.now a.from.cursor) c.before.enum_told.given.1) s.requires.1
+    picks_none a.text.now a.from c.ended.result a.lone-1.now (records_from a.from.plan-1 a.text.now) c.ended.ensures (ap (λ (p : Plan). records_from p a.text.now a.from.cursor) c.before.enum_told-1.given.1) s.requires.1
 
-returns-2 : tie.Need-returns-2
-returns-2 c =
+returns-in-TooLong : tie.Need-returns-in-TooLong
+returns-in-TooLong c =
     let s = c.before.before.before.before.before in
     let a = s.args in
-    subst (λ (p : Plan). Picks a.text.now a.from c.pick-too-long.result a.lone.now (records_from p a.text.now)) (sym c.before.enum-told2.given.1) (c.pick-too-long.ensures a.text.now a.lone.now s.requires.1)
+    subst (λ (p : Plan). Picks a.text.now a.from c.pick_too_long.result a.lone-1.now (records_from p a.text.now)) (sym c.before.enum_told-in-TooLong-1.given.1) (c.pick_too_long.ensures a.text.now a.lone-1.now s.requires.1)
 
-returns-3 : tie.Need-returns-3
-returns-3 c =
+returns-in-List : tie.Need-returns-in-List
+returns-in-List c =
     let r = c.before.before in
     let a = r.before.before.before.before.before.before.before.args in
-    subst (λ (p : Plan). Picks a.text.now a.from r.Pick-Chosen.result r.Pick-Chosen.new.1.1.1.0 (records_from p a.text.now)) (sym r.before.before.before.plan.given.1) r.Pick-Chosen.ensures
+    subst (λ (p : Plan). Picks a.text.now a.from r.pick_chosen.result r.pick_chosen.new.1.1.1.0 (records_from p a.text.now)) (sym r.before.before.before.plan-1.given.1) r.pick_chosen.ensures
 
 pub pick_spec : {M : Type 1} → statement M
 pick_spec =
@@ -41,8 +41,8 @@ pick_spec =
     (λ c. search rules)
     (λ c κs. search rules)
     (λ c. search rules)
-    pick-chosen-requires
-    returns
-    returns-2
+    pick_chosen-requires
+    returns-in-Refused
+    returns-in-TooLong
     (λ c. search rules)
-    returns-3)
+    returns-in-List)

@@ -10,43 +10,43 @@ use Rattle.masking.proofs.Hiding.{hide_none, hide_more, length-hide}
 use Rattle.masking.proofs.copy.hide.Statement.{statement}
 use Rattle.masking.proofs.copy.hide.Tie as tie
 
-abbrev invariant-loop : tie.invariant-loop
-invariant-loop copy₀ from to i₀ copy i = (from ≤ i) × (i ≤ to) × (copy ≡ hide from i copy₀)
+abbrev invariant-loop-i : tie.invariant-loop-i
+invariant-loop-i copy₀ from to i₀ copy i = (from ≤ i) × (i ≤ to) × (copy ≡ hide from i copy₀)
 
-abbrev decreases-loop : tie.decreases-loop
-decreases-loop copy₀ from to i₀ copy i = to - i
+abbrev decreases-loop-i : tie.decreases-loop-i
+decreases-loop-i copy₀ from to i₀ copy i = to - i
 
-same : (l : tie.At-loop invariant-loop decreases-loop) → length l.loop.copy ≡ length l.before.before.args.copy.now
-same l = let a = l.before.before.args in ap length l.loop.invariant.2 ∙ length-hide a.from l.loop.i a.copy.now l.loop.invariant.0 (omega arith)
+same : (l : tie.At-loop-i invariant-loop-i decreases-loop-i) → length l.loop-i.copy ≡ length l.before.before.args.copy.now
+same l = let a = l.before.before.args in ap length l.loop-i.invariant.2 ∙ length-hide a.from l.loop-i.i a.copy.now l.loop-i.invariant.0 (omega arith)
 
-loop-again : tie.Need-loop-preserved invariant-loop decreases-loop
-loop-again c =
+loop-i-preserved : tie.Need-loop-i-preserved invariant-loop-i decreases-loop-i
+loop-i-preserved c =
     let l = c.before.before in
     let a = l.before.before.args in (
       omega arith,
       omega arith,
-      ap₂ (λ (x : List ℕ) (b : ℕ). set x l.loop.i b) l.loop.invariant.2 c.mask-byte.ensures
-          ∙ hide_more a.from l.loop.i a.copy.now (omega arith) (omega arith),
+      ap₂ (λ (x : List ℕ) (b : ℕ). set x l.loop-i.i b) l.loop-i.invariant.2 c.mask_byte.ensures
+          ∙ hide_more a.from l.loop-i.i a.copy.now (omega arith) (omega arith),
     )
 
-returns : tie.Need-returns invariant-loop decreases-loop
+returns : tie.Need-returns invariant-loop-i decreases-loop-i
 returns c =
     let l = c.before in
     let a = l.before.before.args in
-    let e : l.loop.i ≡ a.to = omega arith in
-    l.loop.invariant.2 ∙ ap (λ (n : ℕ). hide a.from n a.copy.now) e
+    let e : l.loop-i.i ≡ a.to = omega arith in
+    l.loop-i.invariant.2 ∙ ap (λ (n : ℕ). hide a.from n a.copy.now) e
 
-pub hide-spec : {M : Type 1} → statement M
-hide-spec =
+pub hide_spec : {M : Type 1} → statement M
+hide_spec =
     tie.close
     (tie.spec
-    invariant-loop
-    decreases-loop
+    invariant-loop-i
+    decreases-loop-i
     (λ c. (omega arith, omega arith, sym (hide_none c.before.args.from _)))
     (λ c κs. search rules)
     (λ c. omega (arith, same c.before.before))
     (λ c. omega arith)
     (λ c. omega arith)
-    loop-again
+    loop-i-preserved
     (λ c. same c.before)
     returns)

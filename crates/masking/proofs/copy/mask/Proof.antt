@@ -12,56 +12,56 @@ use Rattle.masking.proofs.Copying.{filled_over}
 use Rattle.masking.proofs.copy.mask.Statement.{statement}
 use Rattle.masking.proofs.copy.mask.Tie as tie
 
-returns : tie.Need-returns
+returns-then-size-max_query_size : tie.Need-returns-then-size-max_query_size
 unfolding masked_copy
-returns c = rw (lt-ltb max_query_size _ (rw c.before.max-query-size.ensures at c.if1.true))
+returns-then-size-max_query_size c = rw (lt-ltb max_query_size _ (rw c.before.max_query_size.ensures at c.if-size-max_query_size.true))
 
 -- past the first test
-short : (c : tie.Else1) → too_long c.before.before.before.before.args.text.now ≡ false
-short c = le-ltb max_query_size _ (rw c.before.max-query-size.ensures at c.if1.false)
+short : (c : tie.Else-size-max_query_size) → too_long c.before.before.before.before.args.text.now ≡ false
+short c = le-ltb max_query_size _ (rw c.before.max_query_size.ensures at c.if-size-max_query_size.false)
 
-returns-2 : tie.Need-returns-2
+returns-then-valid-size : tie.Need-returns-then-valid-size
 unfolding masked_copy
-returns-2 c =
-    let v = c.before.valid-length.ensures in
-    rw (short c.before.before, ne_eqb _ _ (λ e. c.if2.true (v ∙ e)), v)
+returns-then-valid-size c =
+    let v = c.before.valid_length-valid.ensures in
+    rw (short c.before.before, ne_eqb _ _ (λ e. c.if-valid-size.true (v ∙ e)), v)
 
 -- past the second
-is-valid : (c : tie.Else2) → valid c.before.before.before.before.before.before.args.text.now ≡ true
-is-valid c = eq-eqb _ _ (sym c.before.valid-length.ensures ∙ c.if2.false)
+is-valid : (c : tie.Else-valid-size) → valid c.before.before.before.before.before.before.args.text.now ≡ true
+is-valid c = eq-eqb _ _ (sym c.before.valid_length-valid.ensures ∙ c.if-valid-size.false)
 
-returns-3 : tie.Need-returns-3
+returns-then-copy-size : tie.Need-returns-then-copy-size
 unfolding masked_copy
-returns-3 c = rw (short c.before.before.before, is-valid c.before, lt-ltb _ _ c.if3.true)
+returns-then-copy-size c = rw (short c.before.before.before, is-valid c.before, lt-ltb _ _ c.if-copy-size.true)
 
-mask-tokens-requires : tie.Need-mask-tokens-requires
-mask-tokens-requires c κs =
+mask_tokens-requires : tie.Need-mask_tokens-requires
+mask_tokens-requires c κs =
     let t = c.before.before.before in
     let a = t.before.before.before.before.before.before.before.before.before.args in
-    let e = t.copy-front.ensures in
-    (ltb-false max_query_size _ (short t.before.before.before.before.before), e ∙ sym (ap (filled a.text.now) e ∙ filled_over a.text.now a.text.now a.copy.now refl))
+    let e = t.copy_front.ensures in
+    (ltb-false max_query_size _ (short t.before.before.before.before.before), e ∙ sym (ap (filled a.text.now) e ∙ filled_over a.text.now a.text.now a.copy-1.now refl))
 
-returns-4 : tie.Need-returns-4
+returns : tie.Need-returns
 unfolding masked_copy
-returns-4 c =
+returns c =
     let m = c.before.before in
     let t = m.before.before.before.before in
     let r = t.before.before in
     let a = r.before.before.before.before.before.before.before.args in
     let s = a.text.now in
-    let f = m.mask-tokens.ensures ∙ ap (filled (masked s)) t.copy-front.ensures ∙ filled_over (masked s) s a.copy.now (length-masked s) in
-    rw (short r.before.before.before, is-valid r.before, le-ltb _ _ r.if3.false, f)
+    let f = m.mask_tokens.ensures ∙ ap (filled (masked s)) t.copy_front.ensures ∙ filled_over (masked s) s a.copy-1.now (length-masked s) in
+    rw (short r.before.before.before, is-valid r.before, le-ltb _ _ r.if-copy-size.false, f)
 
-pub mask-spec : {M : Type 1} → statement M
-mask-spec =
+pub mask_spec : {M : Type 1} → statement M
+mask_spec =
     tie.close
     (tie.spec
     (λ c κs. search rules)
-    returns
+    returns-then-size-max_query_size
     (λ c κs. search rules)
-    returns-2
-    returns-3
+    returns-then-valid-size
+    returns-then-copy-size
     (λ c κs. search rules)
-    mask-tokens-requires
+    mask_tokens-requires
     (λ c. search rules)
-    returns-4)
+    returns)

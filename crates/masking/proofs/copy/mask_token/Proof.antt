@@ -8,17 +8,17 @@ use Rattle.masking.proofs.copy.mask_token.Statement.{statement}
 use Rattle.masking.proofs.copy.mask_token.Tie as tie
 
 -- what is kept lies in the token
-kept : (c : tie.After-keeps-back) → let a = c.before.before.before.before.args in (a.start + c.before.keeps-front.result) + c.keeps-back.result ≤ a.end
+kept : (c : tie.After-keeps_back) → let a = c.before.before.before.before.args in (a.start + c.before.keeps_front.result) + c.keeps_back.result ≤ a.end
 kept c =
     let s = c.before.before.before.before.requires.0 in
-    let f = c.before.keeps-front.ensures in
-    let b = c.keeps-back.ensures in
+    let f = c.before.keeps_front.ensures in
+    let b = c.keeps_back.ensures in
     omega (arith, s.apart, s.span)
 
-front_fits : (c : tie.After-keeps-front) → let a = c.before.before.before.args in a.start + c.keeps-front.result ≤ a.end
+front_fits : (c : tie.After-keeps_front) → let a = c.before.before.before.args in a.start + c.keeps_front.result ≤ a.end
 front_fits c =
     let s = c.before.before.before.requires.0 in
-    let f = c.keeps-front.ensures in
+    let f = c.keeps_front.ensures in
     omega (arith, s.apart, s.span)
 
 returns : tie.Need-returns
@@ -27,10 +27,10 @@ returns c =
     let b = h.before.before in
     let f = b.before in
     let a = f.before.before.before.args in
-    h.hide.ensures ∙ ap₂ (λ (m n : ℕ). hide (a.start + m) (a.end - n) a.copy.now) f.keeps-front.ensures b.keeps-back.ensures
+    h.hide.ensures ∙ ap₂ (λ (m n : ℕ). hide (a.start + m) (a.end - n) a.copy-1.now) f.keeps_front.ensures b.keeps_back.ensures
 
-pub mask-token-spec : {M : Type 1} → statement M
-mask-token-spec =
+pub mask_token_spec : {M : Type 1} → statement M
+mask_token_spec =
     tie.close
     (tie.spec
     (λ c κs. search rules)

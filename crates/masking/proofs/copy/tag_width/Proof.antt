@@ -8,44 +8,44 @@ use Rattle.masking.proofs.Spans.{Passed, passed_start, passed_dollar, passed_oth
 use Rattle.masking.proofs.copy.tag_width.Statement.{statement}
 use Rattle.masking.proofs.copy.tag_width.Tie as tie
 
-abbrev invariant-loop : tie.invariant-loop
-invariant-loop text start end i₀ i = (start < i) × (i ≤ end) × ((span : Span text start end) → Passed text start end span i)
+abbrev invariant-loop-i : tie.invariant-loop-i
+invariant-loop-i text start end i₀ i = (start < i) × (i ≤ end) × ((span : Span text start end) → Passed text start end span i)
 
-abbrev decreases-loop : tie.decreases-loop
-decreases-loop text start end i₀ i = end - i
+abbrev decreases-loop-i : tie.decreases-loop-i
+decreases-loop-i text start end i₀ i = end - i
 
-returns : tie.Need-returns invariant-loop decreases-loop
-returns c =
+returns-then-text-i-eq36 : tie.Need-returns-then-text-i-eq36 invariant-loop-i decreases-loop-i
+returns-then-text-i-eq36 c =
     let l = c.before.before.before in
     let s = l.before.requires in
-    sym (passed_dollar _ _ _ s l.loop.i l.loop.invariant.0 (l.loop.invariant.2 s) (omega arith) c.if1.true)
+    sym (passed_dollar _ _ _ s l.loop-i.i l.loop-i.invariant.0 (l.loop-i.invariant.2 s) (omega arith) c.if-text-i-eq36.true)
 
-loop-again : tie.Need-loop-preserved invariant-loop decreases-loop
-loop-again c =
+loop-i-preserved : tie.Need-loop-i-preserved invariant-loop-i decreases-loop-i
+loop-i-preserved c =
     let l = c.before.before.before in
-    (omega arith, omega arith, λ s. passed_other _ _ _ s l.loop.i l.loop.invariant.0 (l.loop.invariant.2 s) (omega arith) c.if1.false)
+    (omega arith, omega arith, λ s. passed_other _ _ _ s l.loop-i.i l.loop-i.invariant.0 (l.loop-i.invariant.2 s) (omega arith) c.if-text-i-eq36.false)
 
-returns-2 : tie.Need-returns-2 invariant-loop decreases-loop
-returns-2 c =
+returns : tie.Need-returns invariant-loop-i decreases-loop-i
+returns c =
     let l = c.before in
     let s = l.before.requires in
-    sym (passed_all _ _ _ s l.loop.i l.loop.invariant.0 (l.loop.invariant.2 s) (omega arith))
+    sym (passed_all _ _ _ s l.loop-i.i l.loop-i.invariant.0 (l.loop-i.invariant.2 s) (omega arith))
 
-pub tag-width-spec : {M : Type 1} → statement M
-tag-width-spec =
+pub tag_width_spec : {M : Type 1} → statement M
+tag_width_spec =
     tie.close
     (tie.spec
-    invariant-loop
-    decreases-loop
+    invariant-loop-i
+    decreases-loop-i
     (λ c. omega arith)
     (λ c. (omega arith, omega arith, λ span. passed_start _ _ _ span))
     (λ c. omega arith)
     (λ c. omega arith)
     (λ c. omega arith)
-    returns
+    returns-then-text-i-eq36
     (λ c. omega arith)
     (λ c. omega arith)
-    loop-again
+    loop-i-preserved
     (λ c. omega arith)
     (λ c. omega arith)
-    returns-2)
+    returns)

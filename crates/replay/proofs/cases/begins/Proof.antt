@@ -8,13 +8,13 @@ use borrow.Author.Rules.{rules}
 use Rattle.replay.proofs.cases.begins.Statement.{statement}
 use Rattle.replay.proofs.cases.begins.Tie as tie
 
-returns : tie.Need-returns
-returns c = λ e. absurd (false≢true e)
+returns-then-s-n : tie.Need-returns-then-s-n
+returns-then-s-n c = λ e. absurd (false≢true e)
 
-slice-aggregate-same : tie.Need-slice-aggregate-same
-slice-aggregate-same c =
+slice_bounds-same-end : tie.Need-slice_bounds-same-end
+slice_bounds-same-end c =
     let a = c.before.before.before.before.args in
     sym (length-take-le (length a.list.now) a.s.now (omega arith))
 
-pub begins-spec : {M : Type 1} → statement M
-begins-spec = tie.close (tie.spec returns slice-aggregate-same (λ c κs. search rules) (λ c. search rules))
+pub begins_spec : {M : Type 1} → statement M
+begins_spec = tie.close (tie.spec returns-then-s-n slice_bounds-same-end (λ c κs. search rules) (λ c. search rules))

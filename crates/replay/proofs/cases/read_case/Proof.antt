@@ -10,60 +10,60 @@ use Rattle.replay.proofs.Parts.{text_part, after_part, list_part}
 use Rattle.replay.proofs.cases.read_case.Statement.{statement}
 use Rattle.replay.proofs.cases.read_case.Tie as tie
 
+returns-then-rest-lt4 : tie.Need-returns-then-rest-lt4
+returns-then-rest-lt4 c = ((omega arith, omega arith), λ e. absurd (false≢true (sym c.cut.ensures.2 ∙ e)))
+
+returns-then-rest-text_len : tie.Need-returns-then-rest-text_len
+returns-then-rest-text_len c = ((omega arith, omega arith), λ e. absurd (false≢true (sym c.cut-then-rest-text_len.ensures.2 ∙ e)))
+
+returns-then-after-lt4 : tie.Need-returns-then-after-lt4
+returns-then-after-lt4 c = ((omega arith, omega arith), λ e. absurd (false≢true (sym c.cut-then-after-lt4.ensures.2 ∙ e)))
+
+returns-then-after-tokens : tie.Need-returns-then-after-tokens
+returns-then-after-tokens c = ((omega arith, omega arith), λ e. absurd (false≢true (sym c.cut-then-after-tokens.ensures.2 ∙ e)))
+
 returns : tie.Need-returns
-returns c = ((omega arith, omega arith), λ e. absurd (false≢true (sym c.cut.ensures.2 ∙ e)))
-
-returns-2 : tie.Need-returns-2
-returns-2 c = ((omega arith, omega arith), λ e. absurd (false≢true (sym c.cut2.ensures.2 ∙ e)))
-
-returns-3 : tie.Need-returns-3
-returns-3 c = ((omega arith, omega arith), λ e. absurd (false≢true (sym c.cut3.ensures.2 ∙ e)))
-
-returns-4 : tie.Need-returns-4
-returns-4 c = ((omega arith, omega arith), λ e. absurd (false≢true (sym c.cut4.ensures.2 ∙ e)))
-
-returns-5 : tie.Need-returns-5
-returns-5 c =
+returns c =
     let m = c.before.before.before.before in
     let n = m.before.before.before.before in
     let s = n.before.before.before.args.rest.now in
-    let i = n.get-u32.ensures in (
+    let i = n.get_u32-text_len.ensures in (
       (omega arith, omega arith),
-      λ e. sym (list_part s n.get-u32.result i _ m.get-u322.result (after_part s n.get-u32.result i) m.get-u322.ensures)
+      λ e. sym (list_part s n.get_u32-text_len.result i _ m.get_u32-tokens.result (after_part s n.get_u32-text_len.result i) m.get_u32-tokens.ensures)
           ∙ c.agrees.ensures e
-          ∙ ap (λ (t : List ℕ). pack (whole_list full t)) (text_part s n.get-u32.result i),
+          ∙ ap (λ (t : List ℕ). pack (whole_list full t)) (text_part s n.get_u32-text_len.result i),
     )
 
-pub read-case-spec : {M : Type 1} → statement M
-read-case-spec =
+pub read_case_spec : {M : Type 1} → statement M
+read_case_spec =
     tie.close
     (tie.spec
     (λ c κs. search rules)
-    returns
+    returns-then-rest-lt4
     (λ c κs. search rules)
     (λ c. search rules)
     (λ c. search rules)
     (λ c κs. search rules)
-    returns-2
-    (λ c. search rules)
-    (λ c. search rules)
-    (λ c. search rules)
-    (λ c. search rules)
-    (λ c κs. search rules)
-    returns-3
-    (λ c κs. search rules)
-    (λ c. search rules)
-    (λ c. search rules)
-    (λ c κs. search rules)
-    returns-4
-    (λ c. search rules)
-    (λ c. search rules)
-    (λ c. search rules)
-    (λ c. search rules)
-    (λ c. search rules)
+    returns-then-rest-text_len
     (λ c. search rules)
     (λ c. search rules)
     (λ c. search rules)
     (λ c. search rules)
     (λ c κs. search rules)
-    returns-5)
+    returns-then-after-lt4
+    (λ c κs. search rules)
+    (λ c. search rules)
+    (λ c. search rules)
+    (λ c κs. search rules)
+    returns-then-after-tokens
+    (λ c. search rules)
+    (λ c. search rules)
+    (λ c. search rules)
+    (λ c. search rules)
+    (λ c. search rules)
+    (λ c. search rules)
+    (λ c. search rules)
+    (λ c. search rules)
+    (λ c. search rules)
+    (λ c κs. search rules)
+    returns)

@@ -17,21 +17,21 @@ use Rattle.rules.proofs.Chains.{Reached, reached_none, reached_more, reached_all
 use Rattle.saved.proofs.checks.list_fits.Statement.{statement}
 use Rattle.saved.proofs.checks.list_fits.Tie as tie
 
-abbrev invariant-loop : tie.invariant-loop
-invariant-loop list tokens size flag fits₀ at₀ left₀ end₀ fits at left end = (at + left * token_bytes ≤ length list) × Reached size (unpack tokens list) end fits (unpack left (drop at list))
+abbrev invariant-loop-left : tie.invariant-loop-left
+invariant-loop-left list tokens size flag fits₀ at₀ left₀ end₀ fits at left end = (at + left * token_bytes ≤ length list) × Reached size (unpack tokens list) end fits (unpack left (drop at list))
 
-abbrev decreases-loop : tie.decreases-loop
-decreases-loop list tokens size flag fits₀ at₀ left₀ end₀ fits at left end = left
+abbrev decreases-loop-left : tie.decreases-loop-left
+decreases-loop-left list tokens size flag fits₀ at₀ left₀ end₀ fits at left end = left
 
-loop-holds : tie.Need-loop-init invariant-loop decreases-loop
-loop-holds c = (omega arith, reached_none _ _)
+loop-left-init : tie.Need-loop-left-init invariant-loop-left decreases-loop-left
+loop-left-init c = (omega arith, reached_none _ _)
 
 -- a token that was read
-module _ (c : tie.After-get-token invariant-loop decreases-loop) where
-  abbrev l : tie.At-loop invariant-loop decreases-loop
+module _ (c : tie.After-get_token-token invariant-loop-left decreases-loop-left) where
+  abbrev l : tie.At-loop-left invariant-loop-left decreases-loop-left
   l = c.before.before
 
-  abbrev st : tie.Start invariant-loop decreases-loop
+  abbrev st : tie.Start invariant-loop-left decreases-loop-left
   st = l.before.before
 
   abbrev list : List ℕ
@@ -41,62 +41,62 @@ module _ (c : tie.After-get-token invariant-loop decreases-loop) where
   ts = unpack st.args.tokens list
 
   abbrev t : Token
-  t = token_in list l.loop.at
+  t = token_in list l.loop-left.at
 
   abbrev rest : List Token
-  rest = unpack (l.loop.left - 1) (drop (l.loop.at + token_bytes) list)
+  rest = unpack (l.loop-left.left - 1) (drop (l.loop-left.at + token_bytes) list)
 
-  here : Reached st.args.size ts l.loop.end l.loop.fits (t ∷ rest)
-  here = subst (Reached st.args.size ts l.loop.end l.loop.fits) (unpack_more list l.loop.at l.loop.left (omega arith)) l.loop.inv.1
+  here : Reached st.args.size ts l.loop-left.end l.loop-left.fits (t ∷ rest)
+  here = subst (Reached st.args.size ts l.loop-left.end l.loop-left.fits) (unpack_more list l.loop-left.at l.loop-left.left (omega arith)) l.loop-left.inv.1
 
-goes : (c : tie.After-goes-on invariant-loop decreases-loop) → let e = c.before in c.goes_on.result ≡ goes_on (st e).args.size (l e).loop.end (t e)
-goes c = let e = c.before in c.goes_on.ensures ∙ ap (λ (n : CodeToken). goes_on (st e).args.size (l e).loop.end (token n.kind n.start n.end)) e.get-token.ensures
+goes : (c : tie.After-goes_on-fits invariant-loop-left decreases-loop-left) → let e = c.before in c.goes_on-fits.result ≡ goes_on (st e).args.size (l e).loop-left.end (t e)
+goes c = let e = c.before in c.goes_on-fits.ensures ∙ ap (λ (n : CodeToken). goes_on (st e).args.size (l e).loop-left.end (token n.kind n.start n.end)) e.get_token-token.ensures
 
-get-token-requires : tie.Need-get-token-requires invariant-loop decreases-loop
-get-token-requires c κs = search rules
+get_token-token-requires : tie.Need-get_token-token-requires invariant-loop-left decreases-loop-left
+get_token-token-requires c κs = search rules
 
-add_at : tie.Need-overflow-add-at invariant-loop decreases-loop
-add_at c = search rules
+overflow_add-at : tie.Need-overflow_add-at invariant-loop-left decreases-loop-left
+overflow_add-at c = search rules
 
-sub-left : tie.Need-overflow-sub-left invariant-loop decreases-loop
-sub-left c = search rules
+overflow_sub-left : tie.Need-overflow_sub-left invariant-loop-left decreases-loop-left
+overflow_sub-left c = search rules
 
-loop-less : tie.Need-loop-smaller invariant-loop decreases-loop
-loop-less c = search rules
+loop-left-smaller : tie.Need-loop-left-smaller invariant-loop-left decreases-loop-left
+loop-left-smaller c = search rules
 
-loop-again : tie.Need-loop-preserved invariant-loop decreases-loop
-loop-again c =
+loop-left-preserved : tie.Need-loop-left-preserved invariant-loop-left decreases-loop-left
+loop-left-preserved c =
     let g = c.before in
     let e = g.before in
-    let n = c.token-bytes.ensures in
-    let r = reached_more (st e).args.size (ts e) (l e).loop.end (l e).loop.fits (t e) (rest e) (here e) in
-    let end : (t e).end ≡ e.get-token.result.end = ap (λ (n : CodeToken). n.end) (sym e.get-token.ensures) in
-    let fits : ((l e).loop.fits && goes_on (st e).args.size (l e).loop.end (t e)) ≡ ((l e).loop.fits && g.goes_on.result) = ap (λ (b : Bool). (l e).loop.fits && b) (sym (goes g)) in
-    let at : token_bytes ≡ c.token-bytes.result = sym n in
-    (omega (arith, n), subst (λ (x : ℕ × Bool × ℕ). Reached (st e).args.size (ts e) x.0 x.1 (unpack ((l e).loop.left - 1) (drop ((l e).loop.at + x.2) (list e)))) (λ i. (end i, fits i, at i)) r)
+    let n = c.token_bytes-at.ensures in
+    let r = reached_more (st e).args.size (ts e) (l e).loop-left.end (l e).loop-left.fits (t e) (rest e) (here e) in
+    let end : (t e).end ≡ e.get_token-token.result.end = ap (λ (n : CodeToken). n.end) (sym e.get_token-token.ensures) in
+    let fits : ((l e).loop-left.fits && goes_on (st e).args.size (l e).loop-left.end (t e)) ≡ ((l e).loop-left.fits && g.goes_on-fits.result) = ap (λ (b : Bool). (l e).loop-left.fits && b) (sym (goes g)) in
+    let at : token_bytes ≡ c.token_bytes-at.result = sym n in
+    (omega (arith, n), subst (λ (x : ℕ × Bool × ℕ). Reached (st e).args.size (ts e) x.0 x.1 (unpack ((l e).loop-left.left - 1) (drop ((l e).loop-left.at + x.2) (list e)))) (λ i. (end i, fits i, at i)) r)
 
-returns : tie.Need-returns invariant-loop decreases-loop
+returns : tie.Need-returns invariant-loop-left decreases-loop-left
 returns c =
     let l = c.before.before in
     let a = l.before.before.args in
     let ts = unpack a.tokens a.list.now in
-    let z : l.loop.left ≡ 0 = omega arith in
-    let none = subst (Reached a.size ts l.loop.end l.loop.fits) (ap (λ (k : ℕ). unpack k (drop l.loop.at a.list.now)) z ∙ unpack_none (drop l.loop.at a.list.now)) l.loop.invariant.1 in
-    c.is-accepted.ensures ∙ sym (reached_all a.size ts l.loop.end l.loop.fits none a.flag)
+    let z : l.loop-left.left ≡ 0 = omega arith in
+    let none = subst (Reached a.size ts l.loop-left.end l.loop-left.fits) (ap (λ (k : ℕ). unpack k (drop l.loop-left.at a.list.now)) z ∙ unpack_none (drop l.loop-left.at a.list.now)) l.loop-left.invariant.1 in
+    c.is_accepted.ensures ∙ sym (reached_all a.size ts l.loop-left.end l.loop-left.fits none a.flag)
 
-pub list-fits-spec : {M : Type 1} → statement M
-list-fits-spec =
+pub list_fits_spec : {M : Type 1} → statement M
+list_fits_spec =
     tie.close
     (tie.spec
-    invariant-loop
-    decreases-loop
-    loop-holds
-    get-token-requires
+    invariant-loop-left
+    decreases-loop-left
+    loop-left-init
+    get_token-token-requires
     (λ c κs. search rules)
     (λ c κs. search rules)
-    add_at
-    sub-left
-    loop-less
-    loop-again
+    overflow_add-at
+    overflow_sub-left
+    loop-left-smaller
+    loop-left-preserved
     (λ c κs. search rules)
     returns)

@@ -21,9 +21,9 @@ returns c =
     let a = c.before.before.args in
     let file = a.file.now in
     let s = drop a.at file in
-    let first : get_or s 0 0 < 256 = subst (λ (n : ℕ). n < 256) (sym (get_or-drop a.at file 0 0)) (omega (arith, c.before.shared-slice-known.given (a.at + 0))) in
-    let number : c.get-u32.result ≡ number_at s 0 = c.get-u32.ensures ∙ ap (number_at file) (sym (add-zero a.at)) ∙ number_dropped file a.at 0 in
+    let first : get_or s 0 0 < 256 = subst (λ (n : ℕ). n < 256) (sym (get_or-drop a.at file 0 0)) (omega (arith, c.before.shared_slice_known-1.given (a.at + 0))) in
+    let number : c.get_u32-record.result ≡ number_at s 0 = c.get_u32-record.ensures ∙ ap (number_at file) (sym (add-zero a.at)) ∙ number_dropped file a.at 0 in
     same-token (ap (λ (n : ℕ). n % 256) number ∙ record_kind s first) (ap (λ (n : ℕ). n / 256) number ∙ record_end s first)
 
-pub get-record-spec : {M : Type 1} → statement M
-get-record-spec = tie.close (tie.spec (λ c κs. search rules) returns)
+pub get_record_spec : {M : Type 1} → statement M
+get_record_spec = tie.close (tie.spec (λ c κs. search rules) returns)

@@ -19,16 +19,16 @@ returns c =
     let c₂ = c₃.before.before.before.before in
     let c₁ = c₂.before.before.before.before in
     let a = c₁.before.before.before.args in
-    let l = a.file.now in (
+    let l = a.file-1.now in (
       omega arith,
       put_both l _ _ (bytes_of32 a.offset ++ bytes_of32 a.count) (bytes_of32 (a.flag + version * 256)) _ _
-          (put_both l _ _ (bytes_of32 a.offset) (bytes_of32 a.count) _ _ c₁.put-u32.ensures.1 c₁.put-u32.ensures.0 c₂.put-u322.ensures.1)
-          (omega arith) c₃.put-u323.ensures.1
+          (put_both l _ _ (bytes_of32 a.offset) (bytes_of32 a.count) _ _ c₁.put_u32-at.ensures.1 c₁.put_u32-at.ensures.0 c₂.put_u32-at-2.ensures.1)
+          (omega arith) c₃.put_u32.ensures.1
           ∙ ap (λ (marks : List ℕ). sets l a.at (bytes_of32 a.offset ++ (bytes_of32 a.count ++ marks))) (marks_bytes a.flag c₁.before.before.before.requires.1),
     )
 
-pub put-trailer-spec : {M : Type 1} → statement M
-put-trailer-spec =
+pub put_trailer_spec : {M : Type 1} → statement M
+put_trailer_spec =
     tie.close
     (tie.spec
     (λ c κs. search rules)

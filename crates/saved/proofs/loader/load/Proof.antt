@@ -15,56 +15,56 @@ use Rattle.saved.proofs.Answers.{loading-refused, loading_no_room, opened, text-
 use Rattle.saved.proofs.loader.load.Statement.{statement}
 use Rattle.saved.proofs.loader.load.Tie as tie
 
-returns : tie.Need-returns
-returns c =
+returns-then-text-ne0 : tie.Need-returns-then-text-ne0
+returns-then-text-ne0 c =
     let a = c.before.before.before.before.before.args in
-    let e = c.before.before.saved-text-answer.ensures in
-    ap (λ (v : Verdict). refused_load v.number v.value a.list.now) e
-    ∙ sym (loading-refused a.file.now a.list.now (λ h. c.if1.true (ap (λ (v : Verdict). v.number) e ∙ h)))
+    let e = c.before.before.saved_text_answer-text.ensures in
+    ap (λ (v : Verdict). refused_load v.number v.value a.list-1.now) e
+    ∙ sym (loading-refused a.file.now a.list-1.now (λ h. c.if-text-ne0.true (ap (λ (v : Verdict). v.number) e ∙ h)))
 
 -- past the first test
-module _ (c : tie.Else1) where
+module _ (c : tie.Else-text-ne0) where
   abbrev file : List ℕ
   file = c.before.before.before.before.before.args.file.now
 
   done : (opening file).number ≡ Done
-  done = sym (ap (λ (v : Verdict). v.number) c.before.before.saved-text-answer.ensures) ∙ c.if1.false
+  done = sym (ap (λ (v : Verdict). v.number) c.before.before.saved_text_answer-text.ensures) ∙ c.if-text-ne0.false
 
   opens : Opens file
   opens = opened file done
 
-  offset : c.before.before.saved-text-answer.result.value ≡ offset_in file
-  offset = ap (λ (v : Verdict). v.value) c.before.before.saved-text-answer.ensures ∙ (text-inside file done).0
+  offset : c.before.before.saved_text_answer-text.result.value ≡ offset_in file
+  offset = ap (λ (v : Verdict). v.value) c.before.before.saved_text_answer-text.ensures ∙ (text-inside file done).0
 
-returns-2 : tie.Need-returns-2
-returns-2 c =
+returns-then-list-token_bytes : tie.Need-returns-then-list-token_bytes
+returns-then-list-token_bytes c =
     let e = c.before.before.before in
     let a = e.before.before.before.before.before.args in
-    let n = c.before.before.get-u32.ensures in
-    let less : room a.list.now < count_in (file e) = subst (λ (k : ℕ). length a.list.now / k < count_in (file e)) c.before.token-bytes.ensures (omega (arith, n, c.if2.true)) in
-    ap (λ (k : ℕ). refused_load NoRoom k a.list.now) n ∙ sym (loading_no_room (file e) a.list.now (eq-eqb _ _ (done e)) less)
+    let n = c.before.before.get_u32-records.ensures in
+    let less : room a.list-1.now < count_in (file e) = subst (λ (k : ℕ). length a.list-1.now / k < count_in (file e)) c.before.token_bytes.ensures (omega (arith, n, c.if-list-token_bytes.true)) in
+    ap (λ (k : ℕ). refused_load NoRoom k a.list-1.now) n ∙ sym (loading_no_room (file e) a.list-1.now (eq-eqb _ _ (done e)) less)
 
 -- past the second
-enough : (c : tie.Else2) → let e = c.before.before.before in count_in (file e) ≤ room e.before.before.before.before.before.args.list.now
+enough : (c : tie.Else-list-token_bytes) → let e = c.before.before.before in count_in (file e) ≤ room e.before.before.before.before.before.args.list-1.now
 enough c =
     let e = c.before.before.before in
-    let l = length e.before.before.before.before.before.args.list.now in
-    subst (λ (k : ℕ). count_in (file e) ≤ l / k) c.before.token-bytes.ensures (omega (arith, c.before.before.get-u32.ensures, c.if2.false))
+    let l = length e.before.before.before.before.before.args.list-1.now in
+    subst (λ (k : ℕ). count_in (file e) ≤ l / k) c.before.token_bytes.ensures (omega (arith, c.before.before.get_u32-records.ensures, c.if-list-token_bytes.false))
 
-put-tokens-requires : tie.Need-put-tokens-requires
-put-tokens-requires c κs =
+put_tokens-requires : tie.Need-put_tokens-requires
+put_tokens-requires c κs =
     let e = c.before.before.before.before in
-    let n = c.before.before.before.get-u32.ensures in
+    let n = c.before.before.before.get_u32-records.ensures in
     (omega (arith, n, offset e, (opens e).sizes), omega (arith, n, enough c.before))
 
-returns-3 : tie.Need-returns-3
-returns-3 c =
+returns : tie.Need-returns
+returns c =
     let p = c.before.before.before.before in
     let e₂ = p.before.before in
     let e = e₂.before.before.before in
-    let list = e.before.before.before.before.before.args.list.now in
-    let n = e₂.before.before.get-u32.ensures in
-    let bytes = p.put-tokens.ensures ∙ (λ i. filled (pack (tokens_in end_bytes (n i) 0 (drop (offset e i) (file e)))) list) in
+    let list = e.before.before.before.before.before.args.list-1.now in
+    let n = e₂.before.before.get_u32-records.ensures in
+    let bytes = p.put_tokens.ensures ∙ (λ i. filled (pack (tokens_in end_bytes (n i) 0 (drop (offset e i) (file e)))) list) in
     (λ i. record { number = Done; value = n i; flag = c.wide.ensures.0 i; buffer = bytes i }) ∙ sym (load_done (file e) list (opens e) (enough e₂))
 
 pub load_spec : {M : Type 1} → statement M
@@ -72,17 +72,17 @@ load_spec =
     tie.close
     (tie.spec
     (λ c κs. search rules)
-    returns
+    returns-then-text-ne0
     (λ c. (opens c).long)
     (λ c. search rules)
     (λ c κs. omega (arith, (opens c).long))
     (λ c. search rules)
     (λ c κs. search rules)
     (λ c. search rules)
-    returns-2
-    put-tokens-requires
+    returns-then-list-token_bytes
+    put_tokens-requires
     (λ c. search rules)
     (λ c. omega (arith, (opens c.before.before.before.before.before.before.before.before).long))
     (λ c κs. search rules)
     (λ c. search rules)
-    returns-3)
+    returns)

@@ -18,54 +18,54 @@ use Rattle.saved.proofs.Storing.{tokens_left, token_put, tokens_put, file_filled
 use Rattle.saved.proofs.loader.put_tokens.Statement.{statement}
 use Rattle.saved.proofs.loader.put_tokens.Tie as tie
 
-abbrev invariant-loop : tie.invariant-loop
-invariant-loop file from records list₀ to₀ at₀ left₀ end₀ list to at left end =
+abbrev invariant-loop-left : tie.invariant-loop-left
+invariant-loop-left file from records list₀ to₀ at₀ left₀ end₀ list to at left end =
     (to + left * token_bytes ≡ records * token_bytes) × (at + left * record_bytes end_bytes ≤ length file) × (length list ≡ length list₀)
     × (sets list to (tokens_left file at left end) ≡ sets list₀ 0 (tokens_left file from records 0))
 
-abbrev decreases-loop : tie.decreases-loop
-decreases-loop file from records list₀ to₀ at₀ left₀ end₀ list to at left end = left
+abbrev decreases-loop-left : tie.decreases-loop-left
+decreases-loop-left file from records list₀ to₀ at₀ left₀ end₀ list to at left end = left
 
-loop-again : tie.Need-loop-preserved invariant-loop decreases-loop
-loop-again c =
+loop-left-preserved : tie.Need-loop-left-preserved invariant-loop-left decreases-loop-left
+loop-left-preserved c =
     let p = c.before.before in
     let g = p.before.before in
-    let l = g.before.before.loop in
+    let l = g.before.before.loop-left in
     let v = l.invariant in
-    let e = p.put-token.ensures in
+    let e = p.put_token-to.ensures in
     let file = g.before.before.before.before.before.args.file.now in
-    let is = e.1 ∙ ap (λ (t : CodeToken). sets l.list l.to (pack_token (token t.kind t.start t.end))) g.get-record.ensures in
-    let end = ap (λ (t : CodeToken). t.end) g.get-record.ensures in (
+    let is = e.1 ∙ ap (λ (t : CodeToken). sets l.list-1 l.to (pack_token (token t.kind t.start t.end))) g.get_record-token.ensures in
+    let end = ap (λ (t : CodeToken). t.end) g.get_record-token.ensures in (
       omega (arith, e.0, v.0),
       omega (arith, v.1),
-      ap length is ∙ length-sets l.list l.to (pack_token (token_of_record end_bytes l.end (drop l.at file))) ∙ v.2,
-      ap (λ (k : ℕ). sets p.put-token.new.0 p.put-token.result (tokens_left file (l.at + record_bytes end_bytes) (l.left - 1) k)) end ∙ token_put file l.at l.left l.end l.list _ l.to _ (omega arith) is e.0 ∙ v.3,
+      ap length is ∙ length-sets l.list-1 l.to (pack_token (token_of_record end_bytes l.end (drop l.at file))) ∙ v.2,
+      ap (λ (k : ℕ). sets p.put_token-to.new.0 p.put_token-to.result (tokens_left file (l.at + record_bytes end_bytes) (l.left - 1) k)) end ∙ token_put file l.at l.left l.end l.list-1 _ l.to _ (omega arith) is e.0 ∙ v.3,
     )
 
-returns : tie.Need-returns invariant-loop decreases-loop
+returns : tie.Need-returns invariant-loop-left decreases-loop-left
 returns c =
-    let l = c.before.loop in
+    let l = c.before.loop-left in
     let v = l.invariant in
     let a = c.before.before.before.before.args in
     let file = a.file.now in
     let z : l.left ≡ 0 = omega arith in
     let n = length-pack (tokens_in end_bytes a.records 0 (drop a.from file)) in
     let m = length-tokens end_bytes a.records 0 (drop a.from file) in
-    tokens_put file l.at l.end l.list l.to ∙ ap (λ (k : ℕ). sets l.list l.to (tokens_left file l.at k l.end)) (sym z) ∙ v.3
-    ∙ file_filled [] (tokens_left file a.from a.records 0) a.list.now (omega (arith, n, m, c.before.before.before.before.requires.1))
+    tokens_put file l.at l.end l.list-1 l.to ∙ ap (λ (k : ℕ). sets l.list-1 l.to (tokens_left file l.at k l.end)) (sym z) ∙ v.3
+    ∙ file_filled [] (tokens_left file a.from a.records 0) a.list-1.now (omega (arith, n, m, c.before.before.before.before.requires.1))
 
-pub put-tokens-spec : {M : Type 1} → statement M
-put-tokens-spec =
+pub put_tokens_spec : {M : Type 1} → statement M
+put_tokens_spec =
     tie.close
     (tie.spec
-    invariant-loop
-    decreases-loop
+    invariant-loop-left
+    decreases-loop-left
     (λ c. (omega arith, omega arith, refl, refl))
     (λ c κs. search rules)
     (λ c κs. search rules)
     (λ c. search rules)
     (λ c. search rules)
     (λ c. search rules)
-    loop-again
+    loop-left-preserved
     (λ c. search rules)
     returns)

@@ -12,39 +12,39 @@ use Rattle.saved.proofs.Answers.{text-refused, opened, text-inside}
 use Rattle.saved.proofs.loader.saved_text.Statement.{statement}
 use Rattle.saved.proofs.loader.saved_text.Tie as tie
 
-returns : tie.Need-returns
-returns c =
+returns-then-answer-ne0 : tie.Need-returns-then-answer-ne0
+returns-then-answer-ne0 c =
     let t = c.before in
     let f = t.before.before.before.before.args.file.now in
-    sym (text-refused f (λ e. t.if1.true (ap (λ (v : Verdict). v.number) t.before.before.saved-text-answer.ensures ∙ e)))
+    sym (text-refused f (λ e. t.if-answer-ne0.true (ap (λ (v : Verdict). v.number) t.before.before.saved_text_answer-answer.ensures ∙ e)))
 
 -- past the test
-done : (c : tie.Else1) → (opening c.before.before.before.before.args.file.now).number ≡ Done
-done c = sym (ap (λ (v : Verdict). v.number) c.before.before.saved-text-answer.ensures) ∙ c.if1.false
+done : (c : tie.Else-answer-ne0) → (opening c.before.before.before.before.args.file.now).number ≡ Done
+done c = sym (ap (λ (v : Verdict). v.number) c.before.before.saved_text_answer-answer.ensures) ∙ c.if-answer-ne0.false
 
-value : (c : tie.Else1) → c.before.before.saved-text-answer.result.value ≡ offset_in c.before.before.before.before.args.file.now
-value c = ap (λ (v : Verdict). v.value) c.before.before.saved-text-answer.ensures ∙ (text-inside c.before.before.before.before.args.file.now (done c)).0
+value : (c : tie.Else-answer-ne0) → c.before.before.saved_text_answer-answer.result-1.value ≡ offset_in c.before.before.before.before.args.file.now
+value c = ap (λ (v : Verdict). v.value) c.before.before.saved_text_answer-answer.ensures ∙ (text-inside c.before.before.before.before.args.file.now (done c)).0
 
 part-result-end-2 : tie.Need-slice-bounds-result-end-2
 part-result-end-2 c = omega (arith, value c, (text-inside c.before.before.before.before.args.file.now (done c)).1)
 
-returns-2 : tie.Need-returns-2
-returns-2 c =
+returns : tie.Need-returns
+returns c =
     let e = c.before in
     let f = e.before.before.before.before.args.file.now in
-    let n : e.before.before.saved-text-answer.result.value - 0 ≡ offset_in f = omega (arith, value e) in
+    let n : e.before.before.saved_text_answer-answer.result-1.value - 0 ≡ offset_in f = omega (arith, value e) in
     ap (λ (k : ℕ). take k f) n ∙ sym (ap (λ (p : Part). p.bytes) (text_done f (opened f (done e))))
 
-pub saved-text-spec : {M : Type 1} → statement M
-saved-text-spec =
+pub saved_text_spec : {M : Type 1} → statement M
+saved_text_spec =
     tie.close
     (tie.spec
     (λ c κs. search rules)
     (λ c. search rules)
     (λ c. search rules)
     (λ c. search rules)
-    returns
+    returns-then-answer-ne0
     (λ c. search rules)
     (λ c. search rules)
     part-result-end-2
-    returns-2)
+    returns)

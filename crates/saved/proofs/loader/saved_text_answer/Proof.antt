@@ -16,117 +16,117 @@ use Rattle.saved.proofs.Answers.{opening_short, opening-version, opening_long, o
 use Rattle.saved.proofs.loader.saved_text_answer.Statement.{statement}
 use Rattle.saved.proofs.loader.saved_text_answer.Tie as tie
 
-returns : tie.Need-returns
-returns c = let t = c.before in c.answer.ensures ∙ sym (ap verdict_of (opening_short t.before.before.args.file.now t.if1.true))
+returns-then-file-lt-TRAILER_BYTES : tie.Need-returns-then-file-lt-TRAILER_BYTES
+returns-then-file-lt-TRAILER_BYTES c = let t = c.before in c.answer.ensures ∙ sym (ap verdict_of (opening_short t.before.before.args.file.now t.if-file-lt-TRAILER_BYTES.true))
 
-returns-2 : tie.Need-returns-2
-returns-2 c = let t = c.before in c.answer2.ensures ∙ sym (ap verdict_of (opening-version t.before.before.before.before.args.file.now (omega arith) t.if2.true))
+returns-then-file-at-ne-VERSION : tie.Need-returns-then-file-at-ne-VERSION
+returns-then-file-at-ne-VERSION c = let t = c.before in c.answer-then-file-at-ne-VERSION.ensures ∙ sym (ap verdict_of (opening-version t.before.before.before.before.args.file.now (omega arith) t.if-file-at-ne-VERSION.true))
 
 -- past the second test
-module _ (c : tie.Else2) where
+module _ (c : tie.Else-file-at-ne-VERSION) where
   long : trailer_bytes ≤ length c.before.before.before.before.args.file.now
   long = omega arith
 
   known : version_in c.before.before.before.before.args.file.now ≡ version
-  known = c.if2.false
+  known = c.if-file-at-ne-VERSION.false
 
-returns-3 : tie.Need-returns-3
-returns-3 c =
+returns-then-size-max_query_size : tie.Need-returns-then-size-max_query_size
+returns-then-size-max_query_size c =
     let t = c.before in
     let e = t.before.before.before in
     let f = e.before.before.before.before.args.file.now in
-    let n = t.before.before.get-u32.ensures in
-    let m = t.before.max-query-size.ensures in
-    c.answer3.ensures ∙ sym (ap verdict_of (opening_long f (long e) (known e) (omega (arith, n, m, t.if3.true))))
+    let n = t.before.before.get_u32-size.ensures in
+    let m = t.before.max_query_size.ensures in
+    c.answer-then-size-max_query_size.ensures ∙ sym (ap verdict_of (opening_long f (long e) (known e) (omega (arith, n, m, t.if-size-max_query_size.true))))
 
 -- past the third
-short : (c : tie.Else3) → offset_in c.before.before.before.before.before.before.before.args.file.now ≤ max_query_size
+short : (c : tie.Else-size-max_query_size) → offset_in c.before.before.before.before.before.before.before.args.file.now ≤ max_query_size
 short c =
-    let n = c.before.before.get-u32.ensures in
-    let m = c.before.max-query-size.ensures in
-    omega (arith, n, m, c.if3.false)
+    let n = c.before.before.get_u32-size.ensures in
+    let m = c.before.max_query_size.ensures in
+    omega (arith, n, m, c.if-size-max_query_size.false)
 
-returns-4 : tie.Need-returns-4
-returns-4 c =
+returns-then-not-is_readable : tie.Need-returns-then-not-is_readable
+returns-then-not-is_readable c =
     let t = c.before in
     let e = t.before.before in
     let e₂ = e.before.before.before in
-    let r = t.before.is-readable in
-    c.answer4.ensures ∙ sym (ap verdict_of (opening_unreadable e₂.before.before.before.before.args.file.now (long e₂) (known e₂) (short e) (sym r.ensures ∙ not-true r.result t.if4.true)))
+    let r = t.before.is_readable in
+    c.answer-then-not-is_readable.ensures ∙ sym (ap verdict_of (opening_unreadable e₂.before.before.before.before.args.file.now (long e₂) (known e₂) (short e) (sym r.ensures ∙ not-true r.result t.if-not-is_readable.true)))
 
 -- past the fourth
-module _ (c : tie.Else4) where
-  abbrev e₃ : tie.Else3
+module _ (c : tie.Else-not-is_readable) where
+  abbrev e₃ : tie.Else-size-max_query_size
   e₃ = c.before.before
 
-  abbrev e₂ : tie.Else2
+  abbrev e₂ : tie.Else-file-at-ne-VERSION
   e₂ = e₃.before.before.before
 
   reads : readable e₂.before.before.before.before.args.file.now ≡ true
-  reads = let r = c.before.is-readable in sym r.ensures ∙ not-false r.result c.if4.false
+  reads = let r = c.before.is_readable in sym r.ensures ∙ not-false r.result c.if-not-is_readable.false
 
   inside : offset_in e₂.before.before.before.before.args.file.now ≤ length e₂.before.before.before.before.args.file.now
   inside = let s = readable_sized e₂.before.before.before.before.args.file.now reads in omega (arith, s)
 
-  offset : e₃.before.before.get-u32.result ≡ offset_in e₂.before.before.before.before.args.file.now
-  offset = e₃.before.before.get-u32.ensures
+  offset : e₃.before.before.get_u32-size.result ≡ offset_in e₂.before.before.before.before.args.file.now
+  offset = e₃.before.before.get_u32-size.ensures
 
 part-valid-length-end : tie.Need-slice-bounds-valid-length-end
 part-valid-length-end c = omega (arith, inside c, offset c)
 
 -- the bytes that are tested are the text
-tested : (c : tie.After-valid-length) → let e = c.before.before in c.valid-length.result ≡ valid_length (text_in (e₂ e).before.before.before.before.args.file.now)
+tested : (c : tie.After-valid_length-valid) → let e = c.before.before in c.valid_length-valid.result ≡ valid_length (text_in (e₂ e).before.before.before.before.args.file.now)
 tested c =
     let e = c.before.before in
-    let n : (e₃ e).before.before.get-u32.result - 0 ≡ offset_in (e₂ e).before.before.before.before.args.file.now = omega (arith, offset e) in
-    c.valid-length.ensures ∙ ap (λ (k : ℕ). valid_length (take k (e₂ e).before.before.before.before.args.file.now)) n
+    let n : (e₃ e).before.before.get_u32-size.result - 0 ≡ offset_in (e₂ e).before.before.before.before.args.file.now = omega (arith, offset e) in
+    c.valid_length-valid.ensures ∙ ap (λ (k : ℕ). valid_length (take k (e₂ e).before.before.before.before.args.file.now)) n
 
 -- and are as many as the offset says
-as_many : (c : tie.Else4) → length (text_in (e₂ c).before.before.before.before.args.file.now) ≡ (e₃ c).before.before.get-u32.result
+as_many : (c : tie.Else-not-is_readable) → length (text_in (e₂ c).before.before.before.before.args.file.now) ≡ (e₃ c).before.before.get_u32-size.result
 as_many c = length-take-le _ (e₂ c).before.before.before.before.args.file.now (inside c) ∙ sym (offset c)
 
-returns-5 : tie.Need-returns-5
-returns-5 c =
+returns-then-valid-size : tie.Need-returns-then-valid-size
+returns-then-valid-size c =
     let t = c.before in
     let v = t.before in
     let e = v.before.before in
     let f = (e₂ e).before.before.before.before.args.file.now in
-    c.answer5.ensures ∙ ap (λ (n : ℕ). verdict_of (verdict NotUtf8 n)) (tested v)
-    ∙ sym (ap verdict_of (opening-broken f (long (e₂ e)) (known (e₂ e)) (short (e₃ e)) (reads e) (λ h. t.if5.true (tested v ∙ h ∙ as_many e))))
+    c.answer-then-valid-size.ensures ∙ ap (λ (n : ℕ). verdict_of (verdict NotUtf8 n)) (tested v)
+    ∙ sym (ap verdict_of (opening-broken f (long (e₂ e)) (known (e₂ e)) (short (e₃ e)) (reads e) (λ h. t.if-valid-size.true (tested v ∙ h ∙ as_many e))))
 
-returns-6 : tie.Need-returns-6
-returns-6 c =
+returns : tie.Need-returns
+returns c =
     let t = c.before in
     let v = t.before in
     let e = v.before.before in
     let f = (e₂ e).before.before.before.before.args.file.now in
-    c.answer6.ensures ∙ ap (λ (n : ℕ). verdict_of (verdict Done n)) (offset e)
-    ∙ sym (ap verdict_of (opening_done f (long (e₂ e)) (known (e₂ e)) (short (e₃ e)) (reads e) (sym (tested v) ∙ t.if5.false ∙ sym (as_many e))))
+    c.answer-2.ensures ∙ ap (λ (n : ℕ). verdict_of (verdict Done n)) (offset e)
+    ∙ sym (ap verdict_of (opening_done f (long (e₂ e)) (known (e₂ e)) (short (e₃ e)) (reads e) (sym (tested v) ∙ t.if-valid-size.false ∙ sym (as_many e))))
 
-pub saved-text-answer-spec : {M : Type 1} → statement M
-saved-text-answer-spec =
+pub saved_text_answer_spec : {M : Type 1} → statement M
+saved_text_answer_spec =
     tie.close
     (tie.spec
     (λ c κs. search rules)
-    returns
+    returns-then-file-lt-TRAILER_BYTES
     (λ c. search rules)
     (λ c. search rules)
     (λ c. search rules)
     (λ c κs. search rules)
-    returns-2
+    returns-then-file-at-ne-VERSION
     (λ c κs. search rules)
     (λ c. search rules)
     (λ c κs. search rules)
     (λ c κs. search rules)
-    returns-3
+    returns-then-size-max_query_size
     (λ c κs. search rules)
     (λ c κs. search rules)
-    returns-4
+    returns-then-not-is_readable
     (λ c. search rules)
     (λ c. search rules)
     part-valid-length-end
     (λ c κs. search rules)
     (λ c κs. search rules)
-    returns-5
+    returns-then-valid-size
     (λ c κs. search rules)
-    returns-6)
+    returns)

@@ -15,44 +15,44 @@ use Rattle.saved.proofs.Storing.{records_left, record_put, records_put}
 use Rattle.saved.proofs.saver.put_records.Statement.{statement}
 use Rattle.saved.proofs.saver.put_records.Tie as tie
 
-abbrev invariant-loop : tie.invariant-loop
-invariant-loop list tokens file₀ from to₀ at₀ left₀ file to at left =
+abbrev invariant-loop-left : tie.invariant-loop-left
+invariant-loop-left list tokens file₀ from to₀ at₀ left₀ file to at left =
     (to + left * record_bytes end_bytes ≡ from + tokens * record_bytes end_bytes) × (at + left * token_bytes ≤ length list) × (length file ≡ length file₀)
     × (sets file to (records_left list at left) ≡ sets file₀ from (records_left list 0 tokens))
 
-abbrev decreases-loop : tie.decreases-loop
-decreases-loop list tokens file₀ from to₀ at₀ left₀ file to at left = left
+abbrev decreases-loop-left : tie.decreases-loop-left
+decreases-loop-left list tokens file₀ from to₀ at₀ left₀ file to at left = left
 
-loop-again : tie.Need-loop-preserved invariant-loop decreases-loop
-loop-again c =
+loop-left-preserved : tie.Need-loop-left-preserved invariant-loop-left decreases-loop-left
+loop-left-preserved c =
     let p = c.before.before.before in
     let g = p.before.before in
-    let l = g.before.before.loop in
+    let l = g.before.before.loop-left in
     let v = l.invariant in
-    let n = c.token-bytes.ensures in
-    let e = p.put_record.ensures in
+    let n = c.token_bytes-at.ensures in
+    let e = p.put_record-to.ensures in
     let list = g.before.before.before.before.before.args.list.now in
-    let is = e.1 ∙ ap (λ (t : CodeToken). sets l.file l.to (record_of end_bytes (token t.kind 0 t.end))) g.get-token.ensures in (
+    let is = e.1 ∙ ap (λ (t : CodeToken). sets l.file-1 l.to (record_of end_bytes (token t.kind 0 t.end))) g.get_token-token.ensures in (
       omega (arith, e.0, v.0),
       omega (arith, n, v.1),
-      ap length is ∙ length-sets l.file l.to (record_of end_bytes (token_in list l.at)) ∙ v.2,
-      ap (λ (k : ℕ). sets p.put_record.new.0 p.put_record.result (records_left list (l.at + k) (l.left - 1))) n ∙ record_put list l.at l.left l.file _ l.to _ (omega arith) is e.0 ∙ v.3,
+      ap length is ∙ length-sets l.file-1 l.to (record_of end_bytes (token_in list l.at)) ∙ v.2,
+      ap (λ (k : ℕ). sets p.put_record-to.new.0 p.put_record-to.result (records_left list (l.at + k) (l.left - 1))) n ∙ record_put list l.at l.left l.file-1 _ l.to _ (omega arith) is e.0 ∙ v.3,
     )
 
-returns : tie.Need-returns invariant-loop decreases-loop
+returns : tie.Need-returns invariant-loop-left decreases-loop-left
 returns c =
-    let l = c.before.loop in
+    let l = c.before.loop-left in
     let v = l.invariant in
     let list = c.before.before.before.before.args.list.now in
     let z : l.left ≡ 0 = omega arith in
-    (omega (arith, v.0), records_put list l.at l.file l.to ∙ ap (λ (k : ℕ). sets l.file l.to (records_left list l.at k)) (sym z) ∙ v.3)
+    (omega (arith, v.0), records_put list l.at l.file-1 l.to ∙ ap (λ (k : ℕ). sets l.file-1 l.to (records_left list l.at k)) (sym z) ∙ v.3)
 
-pub put-records-spec : {M : Type 1} → statement M
-put-records-spec =
+pub put_records_spec : {M : Type 1} → statement M
+put_records_spec =
     tie.close
     (tie.spec
-    invariant-loop
-    decreases-loop
+    invariant-loop-left
+    decreases-loop-left
     (λ c. (refl, omega arith, refl, refl))
     (λ c κs. search rules)
     (λ c κs. search rules)
@@ -60,6 +60,6 @@ put-records-spec =
     (λ c. search rules)
     (λ c. search rules)
     (λ c. search rules)
-    loop-again
+    loop-left-preserved
     (λ c. search rules)
     returns)

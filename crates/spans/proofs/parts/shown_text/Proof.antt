@@ -9,23 +9,23 @@ use Rattle.rules.proofs.Parts.{source, shown_sound}
 use Rattle.spans.proofs.parts.shown_text.Statement.{statement}
 use Rattle.spans.proofs.parts.shown_text.Tie as tie
 
-returns : tie.Need-returns
-returns c =
+returns-then-number-ne0 : tie.Need-returns-then-number-ne0
+returns-then-number-ne0 c =
     let t = c.before in
     let a = t.before.before.before.before.before.args in
-    let n = t.before.number.ensures ∙ t.before.before.shown-text-answer.ensures.0 in
-    sym ((shown_sound a.text.now a.copy.now a.kind a.start a.end).refused (λ e. t.if1.true (n ∙ e)))
+    let n = t.before.number.ensures ∙ t.before.before.shown_text_answer.ensures.0 in
+    sym ((shown_sound a.text.now a.copy.now a.kind a.start a.end).refused (λ e. t.if-number-ne0.true (n ∙ e)))
 
 -- past the first test
-part : (c : tie.Else1) → let a = c.before.before.before.before.before.args in let s = source a.text.now a.copy.now a.kind in
+part : (c : tie.Else-number-ne0) → let a = c.before.before.before.before.before.args in let s = source a.text.now a.copy.now a.kind in
     (a.start ≤ a.end) × (a.end ≤ length s) × (shown_text a.text.now a.copy.now a.kind a.start a.end ≡ part_of s a.start a.end)
 part c =
     let a = c.before.before.before.before.before.args in
-    let n = c.before.number.ensures ∙ c.before.before.shown-text-answer.ensures.0 in
-    (shown_sound a.text.now a.copy.now a.kind a.start a.end).done (sym n ∙ c.if1.false)
+    let n = c.before.number.ensures ∙ c.before.before.shown_text_answer.ensures.0 in
+    (shown_sound a.text.now a.copy.now a.kind a.start a.end).done (sym n ∙ c.if-number-ne0.false)
 
 -- which of the two it is a part of
-of : (c : tie.After-hides) (b : Bool) → c.hides.result ≡ b → let a = c.before.before.before.before.before.before.args in let s = cond b a.copy.now a.text.now in
+of : (c : tie.After-hides) (b : Bool) → c.hides.result-1 ≡ b → let a = c.before.before.before.before.before.before.args in let s = cond b a.copy.now a.text.now in
     (a.end ≤ length s) × ((part_of s a.start a.end).bytes ≡ (shown_text a.text.now a.copy.now a.kind a.start a.end).bytes)
 of c b e =
     let a = c.before.before.before.before.before.before.args in
@@ -33,8 +33,8 @@ of c b e =
     let h = sym c.hides.ensures ∙ e in
     (rw h at p.1, sym (ap (λ (q : Part). q.bytes) p.2 ∙ ap (λ (x : Bool). (part_of (cond x a.copy.now a.text.now) a.start a.end).bytes) h))
 
-pub shown-text-spec : {M : Type 1} → statement M
-shown-text-spec =
+pub shown_text_spec : {M : Type 1} → statement M
+shown_text_spec =
     tie.close
     (tie.spec
     (λ c κs. search rules)
@@ -42,13 +42,13 @@ shown-text-spec =
     (λ c. search rules)
     (λ c. search rules)
     (λ c. search rules)
-    returns
+    returns-then-number-ne0
     (λ c κs. search rules)
     (λ c. (part c.before.before).0)
     (λ c. (part c.before.before).0)
-    (λ c. (of c.before true c.if2.true).0)
-    (λ c. (of c.before.before true c.before.if2.true).1)
+    (λ c. (of c.before true c.if-hides.true).0)
+    (λ c. (of c.before.before true c.before.if-hides.true).1)
     (λ c. (part c.before.before).0)
     (λ c. (part c.before.before).0)
-    (λ c. (of c.before false c.if2.false).0)
-    (λ c. (of c.before.before false c.before.if2.false).1))
+    (λ c. (of c.before false c.if-hides.false).0)
+    (λ c. (of c.before.before false c.before.if-hides.false).1))

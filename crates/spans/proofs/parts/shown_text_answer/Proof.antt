@@ -9,48 +9,48 @@ use Rattle.rules.proofs.Parts.{part_inside}
 use Rattle.spans.proofs.parts.shown_text_answer.Statement.{statement}
 use Rattle.spans.proofs.parts.shown_text_answer.Tie as tie
 
-returns : tie.Need-returns
+returns-then-text-max_query_size : tie.Need-returns-then-text-max_query_size
 unfolding shown_text
-returns c = rw (lt-ltb max_query_size _ (rw c.before.max-query-size.ensures at c.if1.true)) (refl, refl)
+returns-then-text-max_query_size c = rw (lt-ltb max_query_size _ (rw c.before.max_query_size.ensures at c.if-text-max_query_size.true)) (refl, refl)
 
 -- past the first test
-short : (c : tie.Else1) → too_long c.before.before.before.before.args.text.now ≡ false
-short c = le-ltb max_query_size _ (rw c.before.max-query-size.ensures at c.if1.false)
+short : (c : tie.Else-text-max_query_size) → too_long c.before.before.before.before.args.text.now ≡ false
+short c = le-ltb max_query_size _ (rw c.before.max_query_size.ensures at c.if-text-max_query_size.false)
 
-returns-2 : tie.Need-returns-2
+returns-then-no_part : tie.Need-returns-then-no_part
 unfolding shown_text
-returns-2 c = rw (short c.before.before, sym c.before.no_part.ensures ∙ c.if2.true) (refl, refl)
+returns-then-no_part c = rw (short c.before.before, sym c.before.no_part.ensures ∙ c.if-no_part.true) (refl, refl)
 
 -- past the second
-inside : (c : tie.Else2) → let a = c.before.before.before.before.before.before.args in no_part a.text.now a.start a.end ≡ false
-inside c = sym c.before.no_part.ensures ∙ c.if2.false
+inside : (c : tie.Else-no_part) → let a = c.before.before.before.before.before.before.args in no_part a.text.now a.start a.end ≡ false
+inside c = sym c.before.no_part.ensures ∙ c.if-no_part.false
 
-returns-3 : tie.Need-returns-3
+returns-then-not-is_kind : tie.Need-returns-then-not-is_kind
 unfolding shown_text
-returns-3 c = rw (short c.before.before.before.before, inside c.before.before, sym c.before.is-kind.ensures, c.if3.true) (refl, refl)
+returns-then-not-is_kind c = rw (short c.before.before.before.before, inside c.before.before, sym c.before.is_kind.ensures, c.if-not-is_kind.true) (refl, refl)
 
-returns-4 : tie.Need-returns-4
+returns-then-copy-text : tie.Need-returns-then-copy-text
 unfolding shown_text
-returns-4 c =
+returns-then-copy-text c =
     let k = c.before in
-    rw (short k.before.before.before.before, inside k.before.before, sym k.before.is-kind.ensures, k.if3.false, ne_eqb _ _ c.if4.true) (refl, refl)
+    rw (short k.before.before.before.before, inside k.before.before, sym k.before.is_kind.ensures, k.if-not-is_kind.false, ne_eqb _ _ c.if-copy-text.true) (refl, refl)
 
-returns-5 : tie.Need-returns-5
+returns : tie.Need-returns
 unfolding shown_text
-returns-5 c =
+returns c =
     let k = c.before in
-    rw (short k.before.before.before.before, inside k.before.before, sym k.before.is-kind.ensures, k.if3.false, eq-eqb _ _ c.if4.false) (refl, refl)
+    rw (short k.before.before.before.before, inside k.before.before, sym k.before.is_kind.ensures, k.if-not-is_kind.false, eq-eqb _ _ c.if-copy-text.false) (refl, refl)
 
-pub shown-text-answer-spec : {M : Type 1} → statement M
-shown-text-answer-spec =
+pub shown_text_answer_spec : {M : Type 1} → statement M
+shown_text_answer_spec =
     tie.close
     (tie.spec
     (λ c κs. search rules)
-    returns
+    returns-then-text-max_query_size
     (λ c κs. search rules)
-    returns-2
+    returns-then-no_part
     (λ c κs. search rules)
-    returns-3
-    returns-4
+    returns-then-not-is_kind
+    returns-then-copy-text
     (λ c. let a = c.before.before.before.before.before.before.before.before.before.args in (part_inside a.text.now a.start a.end (inside c.before.before.before)).0)
-    returns-5)
+    returns)

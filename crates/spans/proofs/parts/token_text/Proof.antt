@@ -8,23 +8,23 @@ use Rattle.rules.proofs.Parts.{token_sound}
 use Rattle.spans.proofs.parts.token_text.Statement.{statement}
 use Rattle.spans.proofs.parts.token_text.Tie as tie
 
-returns : tie.Need-returns
-returns c =
+returns-then-number-ne0 : tie.Need-returns-then-number-ne0
+returns-then-number-ne0 c =
     let t = c.before in
     let a = t.before.before.before.before.args in
-    let n = t.before.number.ensures ∙ t.before.before.token-text-answer.ensures.0 in
-    sym ((token_sound a.text.now a.start a.end).refused (λ e. t.if1.true (n ∙ e)))
+    let n = t.before.number.ensures ∙ t.before.before.token_text_answer.ensures.0 in
+    sym ((token_sound a.text.now a.start a.end).refused (λ e. t.if-number-ne0.true (n ∙ e)))
 
 -- past the test
-part : (c : tie.Else1) → let a = c.before.before.before.before.args in
+part : (c : tie.Else-number-ne0) → let a = c.before.before.before.before.args in
     (a.start ≤ a.end) × (a.end ≤ length a.text.now) × (token_text a.text.now a.start a.end ≡ part_of a.text.now a.start a.end)
 part c =
     let a = c.before.before.before.before.args in
-    let n = c.before.number.ensures ∙ c.before.before.token-text-answer.ensures.0 in
-    (token_sound a.text.now a.start a.end).done (sym n ∙ c.if1.false)
+    let n = c.before.number.ensures ∙ c.before.before.token_text_answer.ensures.0 in
+    (token_sound a.text.now a.start a.end).done (sym n ∙ c.if-number-ne0.false)
 
-pub token-text-spec : {M : Type 1} → statement M
-token-text-spec =
+pub token_text_spec : {M : Type 1} → statement M
+token_text_spec =
     tie.close
     (tie.spec
     (λ c κs. search rules)
@@ -32,7 +32,7 @@ token-text-spec =
     (λ c. search rules)
     (λ c. search rules)
     (λ c. search rules)
-    returns
+    returns-then-number-ne0
     (λ c. (part c).0)
     (λ c. (part c).0)
     (λ c. (part c).1)

@@ -11,28 +11,28 @@ use Rattle.spans.proofs.places.is_marked.Tie as tie
 told : {m n : Mark} (a b c : ℕ) → m ≡ n → marked n a b c ≡ marked m a b c
 told a b c e = sym (ap (λ (m : Mark). marked m a b c) e)
 
-returns : tie.Need-returns
+returns-in-End : tie.Need-returns-in-End
 unfolding marked
-returns c = let x = c.before.before.before.args in c.ends-line.ensures ∙ told x.a x.b x.c c.before.enum_told.given.1
+returns-in-End c = let x = c.before.before.before.args in c.ends_line.ensures ∙ told x.a x.b x.c c.before.enum_told-1.given.1
 
-returns-2 : tie.Need-returns-2
+returns-in-Lead : tie.Need-returns-in-Lead
 unfolding marked
-returns-2 c = let x = c.before.before.args in told x.a x.b x.c c.enum-told2.given.1
+returns-in-Lead c = let x = c.before.before.args in told x.a x.b x.c c.enum_told-in-Lead-1.given.1
 
-returns-3 : tie.Need-returns-3
+returns-in-Two : tie.Need-returns-in-Two
 unfolding marked
-returns-3 c = let x = c.before.before.before.args in c.is-two.ensures ∙ told x.a x.b x.c c.before.enum-told3.given.1
+returns-in-Two c = let x = c.before.before.before.args in c.is_two.ensures ∙ told x.a x.b x.c c.before.enum_told-in-Two-1.given.1
 
-returns-4 : tie.Need-returns-4
+returns-in-Three : tie.Need-returns-in-Three
 unfolding marked
-returns-4 c = let x = c.before.before.before.before.args in rw (c.before.is-tail.ensures, c.is-tail2.ensures) (told x.a x.b x.c c.before.before.enum-told4.given.1)
+returns-in-Three c = let x = c.before.before.before.before.args in rw (c.before.is_tail.ensures, c.is_tail-in-Three.ensures) (told x.a x.b x.c c.before.before.enum_told-in-Three-1.given.1)
 
-returns-5 : tie.Need-returns-5
+returns-in-Four : tie.Need-returns-in-Four
 unfolding marked
-returns-5 c = let x = c.before.before.before.args in rw c.is-tail3.ensures (told x.a x.b x.c c.before.enum-told5.given.1)
+returns-in-Four c = let x = c.before.before.before.args in rw c.is_tail-in-Four.ensures (told x.a x.b x.c c.before.enum_told-in-Four-1.given.1)
 
-pub is-marked-spec : {M : Type 1} → statement M
-is-marked-spec =
+pub is_marked_spec : {M : Type 1} → statement M
+is_marked_spec =
     tie.close
     (tie.spec
     (λ c. search rules)
@@ -45,8 +45,8 @@ is-marked-spec =
     (λ c κs. search rules)
     (λ c. search rules)
     (λ c κs. search rules)
-    returns
-    returns-2
-    returns-3
-    returns-4
-    returns-5)
+    returns-in-End
+    returns-in-Lead
+    returns-in-Two
+    returns-in-Three
+    returns-in-Four)

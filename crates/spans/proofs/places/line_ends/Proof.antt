@@ -9,74 +9,74 @@ use Rattle.spans.proofs.Blocks.{end_marks, ends_most}
 use Rattle.spans.proofs.places.line_ends.Statement.{statement}
 use Rattle.spans.proofs.places.line_ends.Tie as tie
 
-abbrev invariant-loop : tie.invariant-loop
-invariant-loop text upto n₀ i₀ n i = (i ≤ upto) × (n ≡ between (end_at text) 0 i)
+abbrev invariant-loop-i : tie.invariant-loop-i
+invariant-loop-i text upto n₀ i₀ n i = (i ≤ upto) × (n ≡ between (end_at text) 0 i)
 
-abbrev decreases-loop : tie.decreases-loop
-decreases-loop text upto n₀ i₀ n i = upto - i
+abbrev decreases-loop-i : tie.decreases-loop-i
+decreases-loop-i text upto n₀ i₀ n i = upto - i
 
-abbrev invariant-loop2 : tie.invariant-loop2
-invariant-loop2 text upto n₀ i₀ n i = invariant-loop text upto n₀ i₀ n i
+abbrev invariant-loop-i-2 : tie.invariant-loop-i-2
+invariant-loop-i-2 text upto n₀ i₀ n i = invariant-loop-i text upto n₀ i₀ n i
 
-abbrev decreases-loop2 : tie.decreases-loop2
-decreases-loop2 text upto n₀ i₀ n i = upto - i
+abbrev decreases-loop-i-2 : tie.decreases-loop-i-2
+decreases-loop-i-2 text upto n₀ i₀ n i = upto - i
 
 -- with a block more
-block : (c : tie.After-count invariant-loop decreases-loop invariant-loop2 decreases-loop2)
+block : (c : tie.After-count invariant-loop-i decreases-loop-i invariant-loop-i-2 decreases-loop-i-2)
     → let l = c.before.before in
-    l.loop.n + c.count.result ≡ between (end_at l.before.before.args.text.now) 0 (l.loop.i + 128)
+    l.loop-i.n + c.count.result ≡ between (end_at l.before.before.args.text.now) 0 (l.loop-i.i + 128)
 block c =
     let l = c.before.before in
     let s = l.before.before.args.text.now in
-    omega (arith, c.count.ensures, end_marks s l.loop.i (l.loop.i + 128), sum_join (end_at s) 0 l.loop.i (l.loop.i + 128) (omega arith) (omega arith))
+    omega (arith, c.count.ensures, end_marks s l.loop-i.i (l.loop-i.i + 128), sum_join (end_at s) 0 l.loop-i.i (l.loop-i.i + 128) (omega arith) (omega arith))
 
 -- with a byte more
-turn : (c : tie.Joined1 invariant-loop decreases-loop invariant-loop2 decreases-loop2)
+turn : (c : tie.Joined-end_at invariant-loop-i decreases-loop-i invariant-loop-i-2 decreases-loop-i-2)
     → let l = c.before.before.before in
-    c.if1.n ≡ between (end_at l.before.before.before.before.args.text.now) 0 (l.loop2.i + 1)
+    c.if-end_at.n ≡ between (end_at l.before.before.before.before.args.text.now) 0 (l.loop-i-2.i + 1)
 turn c =
     let l = c.before.before.before in
     let s = l.before.before.before.before.args.text.now in
-    let next = sum_next (end_at s) 0 l.loop2.i (omega arith) in
+    let next = sum_next (end_at s) 0 l.loop-i-2.i (omega arith) in
     ⊎_elim
-    (λ w. let m = ap bit (sym c.before.end-at.ensures ∙ w.0.taken) in omega (arith, w.1, next, m))
-    (λ w. let m = ap bit (sym c.before.end-at.ensures ∙ w.0.left) in omega (arith, w.1, next, m))
-    c.if1.branch
+    (λ w. let m = ap bit (sym c.before.end_at.ensures ∙ w.0.taken) in omega (arith, w.1, next, m))
+    (λ w. let m = ap bit (sym c.before.end_at.ensures ∙ w.0.left) in omega (arith, w.1, next, m))
+    c.if-end_at.branch-raw
 
-add-n : tie.Need-overflow-add-n invariant-loop decreases-loop invariant-loop2 decreases-loop2
-add-n c = let l = c.before.before in omega (arith, block c, ends_most l.before.before.args.text.now 0 (l.loop.i + 128) (omega arith))
+overflow_add-n : tie.Need-overflow_add-n invariant-loop-i decreases-loop-i invariant-loop-i-2 decreases-loop-i-2
+overflow_add-n c = let l = c.before.before in omega (arith, block c, ends_most l.before.before.args.text.now 0 (l.loop-i.i + 128) (omega arith))
 
-add-n-2 : tie.Need-overflow-add-n-2 invariant-loop decreases-loop invariant-loop2 decreases-loop2
-add-n-2 c =
+overflow_add-n-then-end_at : tie.Need-overflow_add-n-then-end_at invariant-loop-i decreases-loop-i invariant-loop-i-2 decreases-loop-i-2
+overflow_add-n-then-end_at c =
     let l = c.before.before.before in
-    omega (arith, ends_most l.before.before.before.before.args.text.now 0 l.loop2.i (omega arith))
+    omega (arith, ends_most l.before.before.before.before.args.text.now 0 l.loop-i-2.i (omega arith))
 
-returns : tie.Need-returns invariant-loop decreases-loop invariant-loop2 decreases-loop2
+returns : tie.Need-returns invariant-loop-i decreases-loop-i invariant-loop-i-2 decreases-loop-i-2
 returns c =
     let l = c.before in
     let x = l.before.before.before.before.args in
-    let e : l.loop2.i ≡ x.upto = omega arith in
-    l.loop2.invariant.1 ∙ ap (between (end_at x.text.now) 0) e
+    let e : l.loop-i-2.i ≡ x.upto = omega arith in
+    l.loop-i-2.invariant.1 ∙ ap (between (end_at x.text.now) 0) e
 
-pub line-ends-spec : {M : Type 1} → statement M
-line-ends-spec =
+pub line_ends_spec : {M : Type 1} → statement M
+line_ends_spec =
     tie.close
     (tie.spec
-    invariant-loop
-    decreases-loop
-    invariant-loop2
-    decreases-loop2
+    invariant-loop-i
+    decreases-loop-i
+    invariant-loop-i-2
+    decreases-loop-i-2
     (λ c. (omega arith, sym (sum_none _ _)))
     (λ c. omega arith)
     (λ c κs. omega arith)
     (λ c. omega arith)
-    add-n
+    overflow_add-n
     (λ c. omega arith)
     (λ c. omega arith)
     (λ c. (omega arith, block c))
-    (λ c. c.before.loop.invariant)
+    (λ c. c.before.loop-i.invariant)
     (λ c κs. omega arith)
-    add-n-2
+    overflow_add-n-then-end_at
     (λ c. omega arith)
     (λ c. omega arith)
     (λ c. (omega arith, turn c))

@@ -18,13 +18,13 @@ byte-bit false = refl
 returns : tie.Need-returns
 returns c =
     let x = c.before.before.args in
-    rw (c.before.goes_on.ensures, c.is-tail.ensures)
+    rw (c.before.goes_on-second.ensures, c.is_tail.ensures)
     (omega (arith, byte-bit (goes_on x.a x.b), byte-bit ((goes_on x.a x.b && leb 0xE0 x.a) && utf8_tail x.c)))
 
-add-result : tie.Need-overflow-add-result
-add-result c =
+overflow_add-result : tie.Need-overflow_add-result
+overflow_add-result c =
     let x = c.before.before.args in
     omega (arith, returns c, bit_most (goes_on x.a x.b), bit_most ((goes_on x.a x.b && leb 0xE0 x.a) && utf8_tail x.c))
 
-pub surplus-by-spec : {M : Type 1} → statement M
-surplus-by-spec = tie.close (tie.spec (λ c κs. search rules) (λ c κs. search rules) (λ c. tt) (λ c. tt) add-result returns)
+pub surplus_by_spec : {M : Type 1} → statement M
+surplus_by_spec = tie.close (tie.spec (λ c κs. search rules) (λ c κs. search rules) (λ c. tt) (λ c. tt) overflow_add-result returns)
