@@ -24,7 +24,7 @@ returns-then-not-is_tag_byte c =
     let t = c.before.before in
     let l = t.before.before.before.before in
     let s = l.before.before.args.text.now in
-    let o = sym t.before.is_tag_byte.ensures ∙ not-true _ t.if-not-is_tag_byte.true in
+    let o = sym t.before.is_tag_byte.ensures ∙ t.if-not-is_tag_byte.true in
     (c.mix-then-not-is_tag_byte.ensures ∙ ap (λ (x : ℕ). mixed l.loop-j.b x 0) c.before.mix.ensures ∙ sym (hash_over l.loop-j.a l.loop-j.b l.loop-j.h s l.loop-j.j (omega arith) o) ∙ l.loop-j.invariant.3, ended l o)
 
 loop-j-preserved : tie.Need-loop-j-preserved invariant-loop-j decreases-loop-j
@@ -32,7 +32,7 @@ loop-j-preserved c =
     let t = c.before in
     let l = t.before.before.before.before in
     let s = l.before.before.args.text.now in
-    let o = sym t.before.is_tag_byte.ensures ∙ not-false _ t.if-not-is_tag_byte.false in (
+    let o = sym t.before.is_tag_byte.ensures ∙ t.if-not-is_tag_byte.false in (
       omega arith,
       omega arith,
       below_more _ _ l.loop-j.invariant.2 (λ h. o),

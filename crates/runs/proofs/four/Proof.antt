@@ -12,7 +12,7 @@ overflow_mul-result : tie.Need-overflow_mul-result
 overflow_mul-result c = omega (arith, (both c).raised)
 
 overflow_add-result : tie.Need-overflow_add-result
-overflow_add-result c = omega (arith, (both c).ranges)
+overflow_add-result c = omega (arith, (both c).fits)
 
 returns : tie.Need-returns
 returns c = omega (arith, (both c).all)

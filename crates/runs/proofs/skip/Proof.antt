@@ -23,7 +23,7 @@ decreases-loop-j text at out k flip j₀ j = length text - j
 flipped : (c : tie.Joined-out invariant-loop-j decreases-loop-j) → c.if-out.flip ≡ cond c.before.before.args.out (0x80 * ones 8) 0
 unfolding ones
 flipped c =
-    ⊎_elim (λ w. w.1 ∙ sym (ap (λ (t : Bool). cond t (0x80 * ones 8) 0) w.0.taken)) (λ w. w.1 ∙ sym (ap (λ (t : Bool). cond t (0x80 * ones 8) 0) w.0.left))
+    ⊎_elim (λ w. w.flip-is ∙ sym (ap (λ (t : Bool). cond t (0x80 * ones 8) 0) w.if-out.true)) (λ w. w.flip-is ∙ sym (ap (λ (t : Bool). cond t (0x80 * ones 8) 0) w.if-out.false))
     c.if-out.branch-raw
 
 -- the marks of the eight bytes

@@ -41,5 +41,5 @@ skip_pairs_spec =
     (λ c. c.before.before.before.loop-i.invariant)
     (λ c. omega arith)
     (λ c. omega arith)
-    (λ c. more _ _ _ _ _ c.before.before.before.loop-i.invariant (omega (arith, c.before.before.before.loop-i.invariant.upto)) (c.before.no_pairs.ensures (not-false _ c.if-not-no_pairs.false)))
+    (λ c. more _ _ _ _ _ c.before.before.before.loop-i.invariant (omega (arith, c.before.before.before.loop-i.invariant.upto)) (c.before.no_pairs.ensures c.if-not-no_pairs.false))
     (λ c. c.before.loop-i.invariant))

@@ -49,7 +49,7 @@ loop-k-smaller : tie.Need-loop-k-smaller invariant-loop-k decreases-loop-k invar
 loop-k-smaller c = omega arith
 
 loop-k-preserved : tie.Need-loop-k-preserved invariant-loop-k decreases-loop-k invariant-loop-k-2 decreases-loop-k-2 invariant-loop-k-3 decreases-loop-k-3
-loop-k-preserved c = pass_on _ _ _ _ c.before.before.before.loop-k.invariant (c.before.ascii64.ensures (not-false _ c.if-not-ascii64.false))
+loop-k-preserved c = pass_on _ _ _ _ c.before.before.before.loop-k.invariant (c.before.ascii64.ensures c.if-not-ascii64.false)
 
 loop-k-2-init : tie.Need-loop-k-2-init invariant-loop-k decreases-loop-k invariant-loop-k-2 decreases-loop-k-2 invariant-loop-k-3 decreases-loop-k-3
 loop-k-2-init c = c.before.loop-k.invariant
@@ -67,7 +67,7 @@ loop-k-2-smaller : tie.Need-loop-k-2-smaller invariant-loop-k decreases-loop-k i
 loop-k-2-smaller c = omega arith
 
 loop-k-2-preserved : tie.Need-loop-k-2-preserved invariant-loop-k decreases-loop-k invariant-loop-k-2 decreases-loop-k-2 invariant-loop-k-3 decreases-loop-k-3
-loop-k-2-preserved c = pass_on _ _ _ _ c.before.before.before.loop-k-2.invariant (c.before.ascii8.ensures (not-false _ c.if-not-ascii8.false))
+loop-k-2-preserved c = pass_on _ _ _ _ c.before.before.before.loop-k-2.invariant (c.before.ascii8.ensures c.if-not-ascii8.false)
 
 loop-k-3-init : tie.Need-loop-k-3-init invariant-loop-k decreases-loop-k invariant-loop-k-2 decreases-loop-k-2 invariant-loop-k-3 decreases-loop-k-3
 loop-k-3-init c = c.before.loop-k-2.invariant

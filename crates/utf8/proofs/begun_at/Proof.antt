@@ -52,7 +52,7 @@ returns-else-is_three c =
 returns-then-not-is_second : tie.Need-returns-then-not-is_second
 returns-then-not-is_second c =
     let x = c.before.before.before.before.before.before.before.args in
-    lone-at x.s.now x.j (omega arith) c.before.is_second.result c.before.before.before.byte_at-b.ensures c.before.is_second.ensures (not-true c.before.is_second.result c.if-not-is_second.true)
+    lone-at x.s.now x.j (omega arith) c.before.is_second.result c.before.before.before.byte_at-b.ensures c.before.is_second.ensures c.if-not-is_second.true
 
 third : (c : tie.After-is_tail) (v : Bool) → c.is_tail.result ≡ v
     → let x = c.before.before.before.before.before.before.before.before.before.args in cond (v && true) 3 2 ≡ broken_length (drop x.j x.s.now)
@@ -60,7 +60,7 @@ third c v q =
     let x = c.before.before.before.before.before.before.before.before.before.args in
     let t = c.before.before.before.is_second in
     third_at x.s.now x.j (omega arith) t.result c.before.before.before.before.before.byte_at-b.ensures t.ensures v
-    (not-false t.result c.before.before.if-not-is_second.false) c.before.byte_at.ensures c.is_tail.ensures q
+    c.before.before.if-not-is_second.false c.before.byte_at.ensures c.is_tail.ensures q
 
 returns-then-is_tail : tie.Need-returns-then-is_tail
 returns-then-is_tail c = third c.before true c.if-is_tail.true

@@ -36,10 +36,10 @@ turn c =
     ∙ ap (λ (b : Bool). b && all_chars number_word (take (a.end - (j + 1)) (chars (drop (j + 1) a.text.now)))) (sym e)
 
 returns-then-not-is_word_byte : tie.Need-returns-then-not-is_word_byte invariant-loop-j decreases-loop-j
-returns-then-not-is_word_byte c = sym (turn c.before ∙ rw (not-true c.before.is_word_byte.result c.if-not-is_word_byte.true))
+returns-then-not-is_word_byte c = sym (turn c.before ∙ rw c.if-not-is_word_byte.true)
 
 loop-j-preserved : tie.Need-loop-j-preserved invariant-loop-j decreases-loop-j
-loop-j-preserved c = (omega arith, omega arith, sym (turn c.before ∙ rw (not-false c.before.is_word_byte.result c.if-not-is_word_byte.false)))
+loop-j-preserved c = (omega arith, omega arith, sym (turn c.before ∙ rw c.if-not-is_word_byte.false))
 
 returns : tie.Need-returns invariant-loop-j decreases-loop-j
 returns c =

@@ -16,13 +16,13 @@ use Rattle.lexer.proofs.tokenizer.read_exponent.Tie as tie
 returns-then-not-is_exponent_mark : tie.Need-returns-then-not-is_exponent_mark
 returns-then-not-is_exponent_mark c =
     let a = c.before.before.before.before.args in
-    part_is a.at (exponent-at_none a.hex a.text.now a.at (sym (c.before.is_exponent_mark.ensures ∙ ap (exponent_mark a.hex) c.before.before.byte_at.ensures) ∙ not-true _ c.if-not-is_exponent_mark.true)) _ (omega arith)
+    part_is a.at (exponent-at_none a.hex a.text.now a.at (sym (c.before.is_exponent_mark.ensures ∙ ap (exponent_mark a.hex) c.before.before.byte_at.ensures) ∙ c.if-not-is_exponent_mark.true)) _ (omega arith)
 
 -- the letter stands there
 letter : (c : tie.Else-not-is_exponent_mark) → let a = c.before.before.before.before.args in exponent_mark a.hex (get_or a.text.now a.at 0) ≡ true
 letter c =
     let a = c.before.before.before.before.args in
-    sym (c.before.is_exponent_mark.ensures ∙ ap (exponent_mark a.hex) c.before.before.byte_at.ensures) ∙ not-false _ c.if-not-is_exponent_mark.false
+    sym (c.before.is_exponent_mark.ensures ∙ ap (exponent_mark a.hex) c.before.before.byte_at.ensures) ∙ c.if-not-is_exponent_mark.false
 
 there : (c : tie.Else-not-is_exponent_mark) → let a = c.before.before.before.before.args in a.at < length a.text.now
 there c = let a = c.before.before.before.before.args in exponent_there a.hex a.text.now a.at (letter c)
@@ -39,14 +39,14 @@ returns-then-not-is_digit c =
     let s = c.before.before.before in
     let a = s.before.before.before.before.before.before.args in
     part_is a.at (exponent-at_wrong a.hex a.text.now a.at (letter s.before.before) (1 + s.sign_len.result) (opens s)
-    (sym (c.before.is_digit.ensures ∙ ap digit c.before.before.byte_at-3.ensures) ∙ not-true _ c.if-not-is_digit.true)) _ refl
+    (sym (c.before.is_digit.ensures ∙ ap digit c.before.before.byte_at-3.ensures) ∙ c.if-not-is_digit.true)) _ refl
 
 returns : tie.Need-returns
 returns c =
     let s = c.before.before.before.before in
     let a = s.before.before.before.before.before.before.args in
     part_is a.at (exponent-at_well a.hex a.text.now a.at (letter s.before.before) (1 + s.sign_len.result) (opens s)
-    (sym (c.before.before.is_digit.ensures ∙ ap digit c.before.before.before.byte_at-3.ensures) ∙ not-false _ c.before.if-not-is_digit.false)) _ (omega (arith, c.read_digits.ensures))
+    (sym (c.before.before.is_digit.ensures ∙ ap digit c.before.before.before.byte_at-3.ensures) ∙ c.before.if-not-is_digit.false)) _ (omega (arith, c.read_digits.ensures))
 
 pub read_exponent_spec : {M : Type 1} → statement M
 read_exponent_spec =

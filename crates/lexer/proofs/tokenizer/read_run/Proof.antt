@@ -31,7 +31,7 @@ returns-then-not-is_separator c =
     omega (
       arith,
       l.loop-j.invariant,
-      byte_stop (radix_digit a.hex) (radix_high a.hex) (radix_none a.hex) s l.loop-j.after l.loop-j.j (omega arith) (sym r.ensures ∙ not-true r.result c.before.before.if-not-digit.true) (sym c.before.is_separator.ensures ∙ not-true _ c.if-not-is_separator.true),
+      byte_stop (radix_digit a.hex) (radix_high a.hex) (radix_none a.hex) s l.loop-j.after l.loop-j.j (omega arith) (sym r.ensures ∙ c.before.before.if-not-digit.true) (sym c.before.is_separator.ensures ∙ c.if-not-is_separator.true),
     )
 
 loop-j-preserved : tie.Need-loop-j-preserved invariant-loop-j decreases-loop-j
@@ -43,7 +43,7 @@ loop-j-preserved c =
       arith,
       l.loop-j.invariant,
       byte-turn (radix_digit a.hex) (radix_high a.hex) (radix_none a.hex) a.text.now l.loop-j.after l.loop-j.j (omega arith) r.result r.ensures
-          (λ e. ⊎_elim (λ w. sym w.1.ensures ∙ not-false _ w.2.left) (λ w. clash (not-false _ w.left) e) c.if-not-digit.branch-raw),
+          (λ e. ⊎_elim (λ w. sym w.1.ensures ∙ w.2.left) (λ w. clash w.left e) c.if-not-digit.branch-raw),
     )
 
 returns : tie.Need-returns invariant-loop-j decreases-loop-j

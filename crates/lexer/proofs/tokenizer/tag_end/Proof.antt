@@ -21,12 +21,12 @@ decreases-loop-i text at i₀ i = length text - i
 returns-then-not-is_tag_byte : tie.Need-returns-then-not-is_tag_byte invariant-loop-i decreases-loop-i
 returns-then-not-is_tag_byte c =
     let v = c.before.before.before.before.loop-i.invariant in
-    record { from = v.0; upto = v.1; tags = v.2; over = sym c.before.is_tag_byte.ensures ∙ not-true _ c.if-not-is_tag_byte.true }
+    record { from = v.0; upto = v.1; tags = v.2; over = sym c.before.is_tag_byte.ensures ∙ c.if-not-is_tag_byte.true }
 
 loop-i-preserved : tie.Need-loop-i-preserved invariant-loop-i decreases-loop-i
 loop-i-preserved c =
     let v = c.before.before.before.before.loop-i.invariant in
-    (omega arith, omega arith, below_more _ _ v.2 (λ l. sym c.before.is_tag_byte.ensures ∙ not-false _ c.if-not-is_tag_byte.false))
+    (omega arith, omega arith, below_more _ _ v.2 (λ l. sym c.before.is_tag_byte.ensures ∙ c.if-not-is_tag_byte.false))
 
 returns : tie.Need-returns invariant-loop-i decreases-loop-i
 returns c =

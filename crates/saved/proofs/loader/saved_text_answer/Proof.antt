@@ -52,7 +52,7 @@ returns-then-not-is_readable c =
     let e = t.before.before in
     let e₂ = e.before.before.before in
     let r = t.before.is_readable in
-    c.answer-then-not-is_readable.ensures ∙ sym (ap verdict_of (opening_unreadable e₂.before.before.before.before.args.file.now (long e₂) (known e₂) (short e) (sym r.ensures ∙ not-true r.result t.if-not-is_readable.true)))
+    c.answer-then-not-is_readable.ensures ∙ sym (ap verdict_of (opening_unreadable e₂.before.before.before.before.args.file.now (long e₂) (known e₂) (short e) (sym r.ensures ∙ t.if-not-is_readable.true)))
 
 -- past the fourth
 module _ (c : tie.Else-not-is_readable) where
@@ -63,7 +63,7 @@ module _ (c : tie.Else-not-is_readable) where
   e₂ = e₃.before.before.before
 
   reads : readable e₂.before.before.before.before.args.file.now ≡ true
-  reads = let r = c.before.is_readable in sym r.ensures ∙ not-false r.result c.if-not-is_readable.false
+  reads = let r = c.before.is_readable in sym r.ensures ∙ c.if-not-is_readable.false
 
   inside : offset_in e₂.before.before.before.before.args.file.now ≤ length e₂.before.before.before.before.args.file.now
   inside = let s = readable_sized e₂.before.before.before.before.args.file.now reads in omega (arith, s)

@@ -38,11 +38,11 @@ returns-then-not-is_writable c =
     let a = e.before.before.before.before.before.args in
     let w = t.before.is_writable in
     ap (λ (v : Verdict). written v a.file-1.now) c.answer-then-not-is_writable.ensures
-    ∙ sym (saving_malformed a.text.now a.list.now a.flag a.file-1.now (short e) (sym w.ensures ∙ not-true w.result t.if-not-is_writable.true))
+    ∙ sym (saving_malformed a.text.now a.list.now a.flag a.file-1.now (short e) (sym w.ensures ∙ t.if-not-is_writable.true))
 
 -- past the second
 writes : (c : tie.Else-not-is_writable) → let a = c.before.before.before.before.before.before.before.args in writable a.text.now a.list.now a.flag ≡ true
-writes c = let w = c.before.is_writable in sym w.ensures ∙ not-false w.result c.if-not-is_writable.false
+writes c = let w = c.before.is_writable in sym w.ensures ∙ c.if-not-is_writable.false
 
 returns-then-valid-size : tie.Need-returns-then-valid-size
 returns-then-valid-size c =
