@@ -9,7 +9,7 @@ use Rattle.classes.proofs.is_alphabetic_in.Statement.{statement}
 use Rattle.classes.proofs.is_alphabetic_in.Tie as tie
 
 returns-then-is_wide : tie.Need-returns-then-is_wide
-returns-then-is_wide c = sym (c.before.is_IsWide.ensures c.if-is_wide.true)
+returns-then-is_wide c = sym (c.before.is_wide.ensures c.if-is_wide.true)
 
 in_ranges-requires : tie.Need-in_ranges-requires
 in_ranges-requires c κs = rw (alphabetic_part _ c.before.before.before.before.requires) alphabetic_form

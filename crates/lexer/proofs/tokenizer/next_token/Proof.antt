@@ -43,7 +43,7 @@ module _ (f : tie.After-first_byte_kind-k) where
   a = get_or s i 0
 
   room : i + 4 ≤ length s
-  room = omega (arith, f.before.before.before.if-start-text.left, f.before.before.if-text-start-lt4.left)
+  room = omega (arith, f.before.before.before.if-start-text.false, f.before.before.if-text-start-lt4.false)
 
   inside : i < length s
   inside = omega (arith, room)
