@@ -33,7 +33,7 @@ module _ (c : tie.Else-is_spaceship-a) where
   d = after_dot_at s i
 
   inside : i < length s
-  inside = omega (arith, st.pre.0)
+  inside = omega (arith, st.requires.0)
 
   left : (((c.before.is_spaceship.result || two (get_or s i 0) (get_or s (i + 1) 0) dash dash) ≡ false) × (two (get_or s i 0) (get_or s (i + 1) 0) slash star ≡ false))
   left = neither (c.before.is_spaceship.result || two (get_or s i 0) (get_or s (i + 1) 0) dash dash) (two (get_or s i 0) (get_or s (i + 1) 0) slash star) c.if-is_spaceship-a.false

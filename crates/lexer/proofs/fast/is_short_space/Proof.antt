@@ -27,7 +27,7 @@ module _ (st : tie.Start) where
   i = st.args.start
 
   one : run white_space (chars (drop (i + 1) s)) ≡ 0 → 1 ≡ run white_space (chars (drop i s))
-  one z = omega (arith, z, byte_more white_space s i (omega (arith, st.pre.0)) true (sym (both (ltb (get_or s i 0) 0x80) (white_space (get_or s i 0)) (lt-ltb (get_or s i 0) 0x80 st.pre.1) st.pre.2)) refl)
+  one z = omega (arith, z, byte_more white_space s i (omega (arith, st.requires.0)) true (sym (both (ltb (get_or s i 0) 0x80) (white_space (get_or s i 0)) (lt-ltb (get_or s i 0) 0x80 st.requires.1) st.requires.2)) refl)
 
 returns-then-b-lt128 : tie.Need-returns-then-b-lt128
 returns-then-b-lt128 c = λ e.

@@ -83,7 +83,7 @@ loop-i-preserved c =
     let d = g.args.delimiter.now in
     let s = g.args.text.now in
     let i = e.before.skip_to-i.result in
-    let absent : begins d (chars (drop i s)) ≡ false = ⊎_elim (λ w. sym w.1.ensures ∙ w.2.left) (λ w. no_dollar d g.requires.0.0 s i (inner e) w.left) c.if-text-i-eq36.branch-raw in
+    let absent : begins d (chars (drop i s)) ≡ false = ⊎_elim (λ w. sym w.matches.ensures ∙ w.if-matches.false) (λ w. no_dollar d g.requires.0.0 s i (inner e) w.if-text-i-eq36.false) c.if-text-i-eq36.branch-raw in
     search_on d g.requires.0.0 s i (inner e) absent ∙ skipped e.before
 
 -- the text's end

@@ -18,7 +18,7 @@ returns-then-byte_at-ne36 c =
 closed : (c : tie.Else-byte_at-ne36) → get_or c.before.before.before.before.args.text.now c.before.before.tag_end-tag.result 0 ≡ dollar
 closed c = sym c.before.byte_at.ensures ∙ c.if-byte_at-ne36.false
 
-part_end : tie.Need-slice-bounds-find-delimiter-end
+part_end : tie.Need-slice_bounds-find_delimiter-end
 part_end c =
     let g = c.before.before.before.before in
     let h = tag_closed g.args.text.now g.args.start c.before.before.tag_end-tag.result c.before.before.tag_end-tag.ensures g.requires.1 (closed c) in

@@ -20,7 +20,7 @@ decreases-loop-j text at j₀ deeper₀ j deeper = length text - j
 loop-j-init : tie.Need-loop-j-init invariant-loop-j decreases-loop-j
 loop-j-init c =
     let a = c.before.before.args in
-    (⊎_elim (λ w. rw w.2 (comment_over a.text.now a.at w.1.result 0 w.1.ensures)) (λ w. rw w.1) c.if-j-text.branch-raw, omega arith)
+    (⊎_elim (λ w. rw w.j-is (comment_over a.text.now a.at w.skip_to_either-j.result 0 w.skip_to_either-j.ensures)) (λ w. rw w.j-is) c.if-j-text.branch-raw, omega arith)
 
 two_at-requires : tie.Need-two_at-requires invariant-loop-j decreases-loop-j
 two_at-requires c κs = (omega arith, omega arith)

@@ -45,10 +45,10 @@ module _ (c : tie.After-unit_len) where
   code_is : c.before.unit_code-c.result ≡ head.code
   code_is =
       c.before.unit_code-c.ensures ∙ ap unit_code c.before.before.unit_at-u.ensures ∙ unit_first (drop i s)
-      ∙ ap first (chars-at s i st.pre.0)
+      ∙ ap first (chars-at s i st.requires.0)
 
   width_is : c.unit_len.result ≡ width head
-  width_is = c.unit_len.ensures ∙ ap unit_len c.before.before.unit_at-u.ensures ∙ unit_width (drop i s) (some_left s i st.pre.0)
+  width_is = c.unit_len.ensures ∙ ap unit_len c.before.before.unit_at-u.ensures ∙ unit_width (drop i s) (some_left s i st.requires.0)
 
   after_is : i + c.unit_len.result ≡ i + width head
   after_is = ap (λ (n : ℕ). i + n) width_is

@@ -74,7 +74,7 @@ module _ (c : tie.After-struct_known-3-1) where
       let m = c.before.before.read_fraction in
       let h = ap (λ (o : Opened). o.hex) eo in
       let f =
-      figures_by s i st.pre.0 st.pre.1 w.result m.result (exponent (opening cs).hex (chars (drop m.result s)))
+      figures_by s i st.requires.0 st.requires.1 w.result m.result (exponent (opening cs).hex (chars (drop m.result s)))
       (w.ensures ∙ ap (λ (o : Opened). (i + o.size) + digits (radix_digit o.hex) false (chars (drop (i + o.size) s))) eo)
       (m.ensures ∙ ap (λ (b : Bool). w.result + fraction (radix_digit b) 0 (chars (drop w.result s))) h) refl in
       let p = c.before.read_exponent-e.ensures ∙ ap (λ (b : Bool). part_at m.result (exponent b (chars (drop m.result s)))) h in
@@ -86,7 +86,7 @@ no-dot c = sym (opens c).before.before.after_dot.ensures ∙ (opens c).before.if
 returns-then-not-e : tie.Need-returns-then-not-e
 returns-then-not-e c =
     let t = c.before in
-    wrong (s t) (i t) (e t).end false _ (no-dot t) ((figured t).0 ∙ c.if-not-e.true) (sym (figured t).1)
+    wrong (s t) (i t) (e t).end false _ (no-dot t) ((figured t).0 ∙ not-true _ c.if-not-e.true) (sym (figured t).1)
 
 ends-to : (c : tie.Else-not-e) → AsciiTo (s c.before) (i c.before) (e c.before).end
 ends-to c = let t = c.before in lead_to (s t) (i t) _ _ (figures-lead (s t) (i t) (st t).requires.0 (st t).requires.1 false) (sym (figured t).1)
@@ -94,7 +94,7 @@ ends-to c = let t = c.before in lead_to (s t) (i t) _ _ (figures-lead (s t) (i t
 returns : tie.Need-returns
 returns c =
     let t = c.before.before in
-    well (s t) (i t) (e t).end false _ (no-dot t) ((figured t).0 ∙ c.before.if-not-e.false) (sym (figured t).1) c.read_identifier_starting_with_number-2.ensures
+    well (s t) (i t) (e t).end false _ (no-dot t) ((figured t).0 ∙ not-false _ c.before.if-not-e.false) (sym (figured t).1) c.read_identifier_starting_with_number-2.ensures
 
 -- the opening is two bytes at most
 few : (c : tie.After-read_opening-o) → c.read_opening-o.result.size ≤ 2

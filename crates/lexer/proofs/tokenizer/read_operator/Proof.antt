@@ -29,7 +29,7 @@ module _ (c : tie.After-is_spaceship) where
   head = record { code = get_or s i 0; bytes = get_or s i 0 ∷ [] }
 
   reads : operator_at (chars (drop i s)) ≡ operator head (chars (drop (i + 1) s))
-  reads = ap operator_at (chars_ascii s i st.pre.0 st.pre.1)
+  reads = ap operator_at (chars_ascii s i st.requires.0 st.requires.1)
 
   ship : c.is_spaceship.result ≡ spaceship (get_or s i 0) (get_or s (i + 1) 0) (get_or s (i + 2) 0)
   ship = c.is_spaceship.ensures ∙ ap₂ (spaceship (get_or s i 0)) c.before.before.byte_at-b.ensures c.before.byte_at-c.ensures

@@ -41,25 +41,25 @@ module _ (st : tie.Start) where
 returns-in-39 : tie.Need-returns-in-39
 returns-in-39 c =
     let t = c.before.before.before.before in
-    let e = c.before.in_default.keys1 in
+    let e = c.before.in-39.is in
     c.read_string.ensures ∙ quoted t quote StringToken ErrorSingleQuoteIsNotClosed ∙ ap (ends_at (i t)) (sym (by_quote (d t) (s t) (i t) t.requires.0 (low t quote (omega arith) e) e))
 
 returns-in-34 : tie.Need-returns-in-34
 returns-in-34 c =
     let t = c.before.before.before.before in
-    let e = c.before.in_default.keys2 in
+    let e = c.before.in-34.is in
     c.read_string-in-34.ensures ∙ quoted t double_quote QuotedIdentifier ErrorDoubleQuoteIsNotClosed ∙ ap (ends_at (i t)) (sym (by_double_quote (d t) (s t) (i t) t.requires.0 (low t double_quote (omega arith) e) e))
 
 returns-in-96 : tie.Need-returns-in-96
 returns-in-96 c =
     let t = c.before.before.before.before in
-    let e = c.before.in_default.keys3 in
+    let e = c.before.in-96.is in
     c.read_string-in-96.ensures ∙ quoted t back_quote QuotedIdentifier ErrorBackQuoteIsNotClosed ∙ ap (ends_at (i t)) (sym (by_back_quote (d t) (s t) (i t) t.requires.0 (low t back_quote (omega arith) e) e))
 
 returns-in-36 : tie.Need-returns-in-36
 returns-in-36 c =
     let t = c.before.before.before.before in
-    let e = c.before.in_default.keys4 in
+    let e = c.before.in-36.is in
     c.read_dollar.ensures ∙ ap (ends_at (i t)) (sym (by_dollar (d t) (s t) (i t) t.requires.0 (low t dollar (omega arith) e) e))
 
 pub read_other_spec : {M : Type 1} → statement M
@@ -74,7 +74,7 @@ read_other_spec =
     (λ c. search rules)
     (λ c κs. search rules)
     (λ c κs. search rules)
-    (λ c κs. let t = c.before.before.before in (t.requires.0, lead_none (get_or (s t) (i t) 0) t.requires.1 (missed_all (dollar ∷ back_quote ∷ double_quote ∷ quote ∷ []) _ c.in_default.rest)))
+    (λ c κs. let t = c.before.before.before in (t.requires.0, lead_none (get_or (s t) (i t) 0) t.requires.1 (missed_all (dollar ∷ back_quote ∷ double_quote ∷ quote ∷ []) _ c.in_default.in_default-own.rest)))
     returns-in-39
     returns-in-34
     returns-in-96

@@ -43,7 +43,7 @@ loop-j-preserved c =
       arith,
       l.loop-j.invariant,
       byte-turn (radix_digit a.hex) (radix_high a.hex) (radix_none a.hex) a.text.now l.loop-j.after l.loop-j.j (omega arith) r.result r.ensures
-          (λ e. ⊎_elim (λ w. sym w.1.ensures ∙ w.2.left) (λ w. clash w.left e) c.if-not-digit.branch-raw),
+          (λ e. ⊎_elim (λ w. sym w.is_separator.ensures ∙ w.if-not-is_separator.false) (λ w. clash w.if-not-digit.false e) c.if-not-digit.branch-raw),
     )
 
 returns : tie.Need-returns invariant-loop-j decreases-loop-j

@@ -18,7 +18,7 @@ decreases-loop-j text at j₀ j = length text - j
 loop-j-init : tie.Need-loop-j-init invariant-loop-j decreases-loop-j
 loop-j-init c =
     let a = c.before.before.args in
-    ⊎_elim (λ w. rw w.2 (line_over a.text.now a.at w.1.result w.1.ensures)) (λ w. rw w.1) c.if-j-text.branch-raw
+    ⊎_elim (λ w. rw w.j-is (line_over a.text.now a.at w.skip_to-j.result w.skip_to-j.ensures)) (λ w. rw w.j-is) c.if-j-text.branch-raw
 
 returns-then-text-j-eq10 : tie.Need-returns-then-text-j-eq10 invariant-loop-j decreases-loop-j
 returns-then-text-j-eq10 c =

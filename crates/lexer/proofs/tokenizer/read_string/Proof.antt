@@ -21,10 +21,10 @@ decreases-loop-i text at quote kind error i₀ i = length text - i
 
 at-loop : (l : tie.At-loop-i invariant-loop-i decreases-loop-i) →
     let a = l.before.before.args in
-    Turn (quoted_body a.quote false) a.text.now a.success-type a.error-type a.at l.loop-i.i
+    Turn (quoted_body a.quote false) a.text.now a.success_type a.error_type a.at l.loop-i.i
 at-loop l =
     let a = l.before.before.args in
-    turn (quoted_body a.quote false) a.text.now a.success-type a.error-type a.at l.loop-i.i l.loop-i.invariant
+    turn (quoted_body a.quote false) a.text.now a.success_type a.error_type a.at l.loop-i.i l.loop-i.invariant
 
 at_byte : (c : tie.In-loop-i invariant-loop-i decreases-loop-i) → QuotedAt c.before.before.before.args.quote c.before.before.before.args.text.now c.before.loop-i.i
 at_byte c =
@@ -56,7 +56,7 @@ loop-i-preserved c =
     let e = c.before in
     let l = e.before.before.before in
     let g = l.before.before.before in
-    quoted_over g.args.quote g.requires.0 g.requires.1 g.requires.2 g.args.text.now g.args.success-type g.args.error-type g.args.at (l.before.loop-i.i + 1) c.skip_to_either-i.result
+    quoted_over g.args.quote g.requires.0 g.requires.1 g.requires.2 g.args.text.now g.args.success_type g.args.error_type g.args.at (l.before.loop-i.i + 1) c.skip_to_either-i.result
     c.skip_to_either-i.ensures ((at-loop l.before).goes 1 ((at_byte l).pass e.before.if-b-eq92.false e.if-b-quote.false))
 
 returns : tie.Need-returns invariant-loop-i decreases-loop-i

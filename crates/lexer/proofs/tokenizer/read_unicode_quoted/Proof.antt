@@ -22,10 +22,10 @@ decreases-loop-i text at last kind error i₀ i = length text - i
 
 at-loop : (l : tie.At-loop-i invariant-loop-i decreases-loop-i) →
     let a = l.before.before.args in
-    Turn (up_to (curly_close a.last)) a.text.now a.success-type a.error-type a.at l.loop-i.i
+    Turn (up_to (curly_close a.last)) a.text.now a.success_type a.error_type a.at l.loop-i.i
 at-loop l =
     let a = l.before.before.args in
-    turn (up_to (curly_close a.last)) a.text.now a.success-type a.error-type a.at l.loop-i.i l.loop-i.invariant
+    turn (up_to (curly_close a.last)) a.text.now a.success_type a.error_type a.at l.loop-i.i l.loop-i.invariant
 
 -- the closing quote stands at i, whole
 closed : (c : tie.Then-closes_curly invariant-loop-i decreases-loop-i) →

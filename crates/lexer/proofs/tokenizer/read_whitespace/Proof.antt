@@ -18,7 +18,7 @@ decreases-loop-j text at j₀ j = length text - j
 loop-j-init : tie.Need-loop-j-init invariant-loop-j decreases-loop-j
 loop-j-init c =
     let a = c.before.before.args in
-    ⊎_elim (λ w. rw w.2 (ascii_over a.text.now a.at w.1.result white_space w.1.ensures)) (λ w. rw w.1) c.if-j-text.branch-raw
+    ⊎_elim (λ w. rw w.j-is (ascii_over a.text.now a.at w.skip_spaces-j.result white_space w.skip_spaces-j.ensures)) (λ w. rw w.j-is) c.if-j-text.branch-raw
 
 loop-j-preserved-then-is_ascii_space : tie.Need-loop-j-preserved-then-is_ascii_space invariant-loop-j decreases-loop-j
 loop-j-preserved-then-is_ascii_space c =

@@ -43,7 +43,7 @@ module _ (t : tie.In-loop-cursor invariant-loop-cursor decreases-loop-cursor) wh
   goes = t.before.loop-cursor.inv.0
 
   inside : (i < st.args.choice.position) × (i < length s)
-  inside = goes_inside s _ _ _ _ _ _ i goes st.pre.1 t.loop-cursor-test.true-token
+  inside = goes_inside s _ _ _ _ _ _ i goes st.requires.1 t.loop-cursor-test.true-token
 
 -- the edges that are left, found or kept
 lefts : (j : tie.Joined-bits-eq0 invariant-loop-cursor decreases-loop-cursor) → let t = j.before in Left (s t) (i t) j.if-bits-eq0.base j.if-bits-eq0.bits
@@ -80,10 +80,10 @@ module _ (n : tie.Joined-token-eq-NoToken invariant-loop-cursor decreases-loop-c
 
   -- a turn moves the cursor on, and not past the end
   moves : (i n.before.before.before.before.before < r.end) × (r.end ≤ length (s n.before.before.before.before.before))
-  moves = let t = n.before.before.before.before.before in goes_moves (s t) _ _ _ _ _ _ (i t) (goes t) (st t).pre.1 t.loop-cursor-test.true-token n.before.before.before.before.if-bits-eq0.base n.if-token-eq-NoToken.token (settled n)
+  moves = let t = n.before.before.before.before.before in goes_moves (s t) _ _ _ _ _ _ (i t) (goes t) (st t).requires.1 t.loop-cursor-test.true-token n.before.before.before.before.if-bits-eq0.base n.if-token-eq-NoToken.token (settled n)
 
   on : let t = n.before.before.before.before.before in Goes (s t) (st t).args.choice.position (st t).args.from.cursor n.if-token-eq-NoToken.stop n.if-token-eq-NoToken.wasted n.before.before.before.before.if-bits-eq0.base n.if-token-eq-NoToken.token.bits r.end
-  on = let t = n.before.before.before.before.before in goes_on (s t) _ _ _ _ _ _ (i t) (goes t) (st t).pre.1 t.loop-cursor-test.true-token n.before.before.before.before.if-bits-eq0.base n.if-token-eq-NoToken.token (settled n) _ _ (spared n)
+  on = let t = n.before.before.before.before.before in goes_on (s t) _ _ _ _ _ _ (i t) (goes t) (st t).requires.1 t.loop-cursor-test.true-token n.before.before.before.before.if-bits-eq0.base n.if-token-eq-NoToken.token (settled n) _ _ (spared n)
 
 -- a token that is kept is the first of those left
 kept : (c : tie.Then-keeps invariant-loop-cursor decreases-loop-cursor) → let n = c.before.before in let t = n.before.before.before.before.before in let a = (st t).args in
@@ -96,7 +96,7 @@ kept c =
     n.before.before.before.before.before.before.loop-cursor.invariant.1
 
 room : (c : tie.Then-keeps invariant-loop-cursor decreases-loop-cursor) → let l = c.before.before.before.before.before.before.before.before in l.loop-cursor.bytes + token_bytes ≤ length l.loop-cursor.list-1
-room c = packs_room _ _ _ _ _ _ _ (kept c) (st c.before.before.before.before.before.before.before).pre.3
+room c = packs_room _ _ _ _ _ _ _ (kept c) (st c.before.before.before.before.before.before.before).requires.3
 
 loop-cursor-preserved-then-keeps : tie.Need-loop-cursor-preserved-then-keeps invariant-loop-cursor decreases-loop-cursor
 loop-cursor-preserved-then-keeps c =
@@ -138,8 +138,8 @@ fill_some_spec =
     (λ c κs. search rules)
     (λ c. let t = c.before.before.before.before.before.before.before.before.before.before in omega (arith, c.before.wasted_by-more.ensures.1, (st t).requires.0, goes_spared (s t) _ _ _ _ _ _ (i t) (goes t) (st t).requires.1 t.loop-cursor-test.true))
     (λ c κs. search rules)
-    (λ c. let n = c.before.before.before in omega (arith, moves n, (st n.before.before.before.before.before).pre.0))
-    (λ c. let n = c.before.before.before in omega (arith, moves n, (st n.before.before.before.before.before).pre.0))
+    (λ c. let n = c.before.before.before in omega (arith, moves n, (st n.before.before.before.before.before).requires.0))
+    (λ c. let n = c.before.before.before in omega (arith, moves n, (st n.before.before.before.before.before).requires.0))
     (λ c κs. room c.before)
     (λ c. omega (arith, moves c.before.before.before.before.before.before))
     loop-cursor-preserved-then-keeps

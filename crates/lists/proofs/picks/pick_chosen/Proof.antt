@@ -45,7 +45,7 @@ module _ (c : tie.After-read_on-at invariant-loop-at decreases-loop-at) where
   before = c.before.before.loop-at-test.true
 
   moves : (i < r.end) × (r.end ≤ length s)
-  moves = next_fits st.args.choice s i r c.read_on-at.ensures.lexed st.pre.1 before
+  moves = next_fits st.args.choice s i r c.read_on-at.ensures.lexed st.requires.1 before
 
 returns-then-keeps : tie.Need-returns-then-keeps invariant-loop-at decreases-loop-at
 returns-then-keeps c =

@@ -133,7 +133,7 @@ mask_some_spec =
     (λ c κs. search rules)
     (λ c. let t = c.before.before.before.before.before.before.before.before.before in omega (arith, c.wasted_by-wasted.ensures.1, (st t).requires.0, goes_spared (s t) _ _ _ _ _ _ (i t) (goes t) (omega arith) t.loop-cursor-test.true))
     (λ c κs. search rules)
-    (λ c κs. let n = c.before.before.before in (hiding c.before, omega (arith, n.before.before.before.before.before.before.loop-cursor.invariant.1, (st n.before.before.before.before.before).pre.2)))
+    (λ c κs. let n = c.before.before.before in (hiding c.before, omega (arith, n.before.before.before.before.before.before.loop-cursor.invariant.1, (st n.before.before.before.before.before).requires.2)))
     (λ c. omega (arith, moves c.before.before.before.before.before.before))
     loop-cursor-preserved-then-hides
     (λ c. omega (arith, moves c.before.before))

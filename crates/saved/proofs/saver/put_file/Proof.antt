@@ -34,7 +34,7 @@ module _ (c : tie.After-copy_front) where
   tokens = ap (λ (k : ℕ). length list / k) c.before.before.token_bytes.ensures
 
   fits : length text + room list * record_bytes end_bytes + trailer_bytes ≤ length file
-  fits = st.pre.3
+  fits = st.requires.3
 
   copied : length c.copy_front.new.1.0 ≡ length file
   copied = ap length c.copy_front.ensures ∙ length_front text file (omega (arith, fits))
@@ -80,7 +80,7 @@ put_file_spec =
     (λ c. search rules)
     (λ c κs. search rules)
     put_records-at-requires
-    (λ c. omega (arith, (st c.before.before.before.before.before.before.before).pre.0))
+    (λ c. omega (arith, (st c.before.before.before.before.before.before.before).requires.0))
     (λ c. let t = c.before.before.before.before.before.before.before in omega (arith, tokens t, (st t).requires.1))
     put_trailer-requires
     (λ c. search rules)
