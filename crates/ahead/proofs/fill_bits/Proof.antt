@@ -18,8 +18,8 @@ loop-m-preserved c =
     let a = l.before.before.before.before.before.args in
     let v = l.loop-m.invariant in
     ⊎_elim
-    (λ w. (rw w.1 (simp length-set v.0), omega arith, subst (λ (x : List ℕ). LoneWords a.text.now a.at x (l.loop-m.m + 1)) (sym w.1) (words_more a.text.now a.at l.loop-m.lone l.loop-m.m 0 (omega arith) v.2 (λ k e. clash e (bit_none k)))))
-    (λ w. (rw w.2 (simp length-set v.0), omega arith, subst (λ (x : List ℕ). LoneWords a.text.now a.at x (l.loop-m.m + 1)) (sym w.2) (words_more a.text.now a.at l.loop-m.lone l.loop-m.m w.1.result (omega arith) v.2 w.1.ensures)))
+    (λ w. (rw w.lone-is (simp length-set v.0), omega arith, subst (λ (x : List ℕ). LoneWords a.text.now a.at x (l.loop-m.m + 1)) (sym w.lone-is) (words_more a.text.now a.at l.loop-m.lone l.loop-m.m 0 (omega arith) v.2 (λ k e. clash e (bit_none k)))))
+    (λ w. (rw w.lone-is (simp length-set v.0), omega arith, subst (λ (x : List ℕ). LoneWords a.text.now a.at x (l.loop-m.m + 1)) (sym w.lone-is) (words_more a.text.now a.at l.loop-m.lone l.loop-m.m w.word_at.result (omega arith) v.2 w.word_at.ensures)))
     c.if-text-at.branch-raw
 
 pub fill_bits_spec : {M : Type 1} → statement M

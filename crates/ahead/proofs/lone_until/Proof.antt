@@ -14,7 +14,7 @@ decreases-loop-i text from table last i₀ i = length text - i
 
 -- this byte is no `$`, or one that begins nothing
 here : (c : tie.Joined-text-i-eq36 invariant-loop-i decreases-loop-i) → let l = c.before.before.before in Lone l.before.before.before.before.args.text.now l.loop-i.i
-here c d = ⊎_elim (λ w. w.1.ensures w.2.left d) (λ w. absurd (w.left d)) c.if-text-i-eq36.branch-raw
+here c d = ⊎_elim (λ w. w.is_lone.ensures w.if-not-is_lone.false d) (λ w. absurd (w.if-text-i-eq36.false d)) c.if-text-i-eq36.branch-raw
 
 loop-i-preserved : tie.Need-loop-i-preserved invariant-loop-i decreases-loop-i
 loop-i-preserved c =

@@ -7,8 +7,8 @@ use Rattle.ahead.proofs.look_ahead.Statement.{statement}
 use Rattle.ahead.proofs.look_ahead.Tie as tie
 
 -- the table keeps its length
-table : (c : tie.After-prepare) → length c.prepare.new.1.1.0 ≡ table_size
-table c = c.prepare.auto.1.1.0 ∙ length-replicate {A = ℕ} table_size 0
+table : (c : tie.After-prepare) → length c.prepare.new.table ≡ table_size
+table c = c.prepare.auto.table ∙ length-replicate {A = ℕ} table_size 0
 
 fill_bits-requires : tie.Need-fill_bits-requires
 fill_bits-requires c κs =
@@ -22,7 +22,7 @@ returns c =
     let f = c.before.before in
     let u = f.before.before.before.before in
     let a = u.before.before.before.before.before.before.before.before.before.before.before.before.args in
-    all_marked a.text.now a.from u.lone_until-until.result f.fill_bits.new.1.1.1.1.1.0 u.lone_until-until.ensures.0 f.fill_bits.ensures
+    all_marked a.text.now a.from u.lone_until-until.result f.fill_bits.new.lone u.lone_until-until.ensures.0 f.fill_bits.ensures
 
 pub look_ahead_spec : {M : Type 1} → statement M
 look_ahead_spec =

@@ -9,7 +9,7 @@ returns-then-may_hold : tie.Need-returns-then-may_hold
 returns-then-may_hold c =
     let t = c.before.before in
     let a = t.before.before.before.args in
-    c.probe.ensures ∙ ap (λ (i : ℕ). probed a.table.now (a.h / 0x100000000) i 64) c.before.start_of_lem.ensures.0 ∙ sym (slot_some a.table.now a.h (sym t.before.may_hold.ensures ∙ t.if-may_hold.true))
+    c.probe.ensures ∙ ap (λ (i : ℕ). probed a.table.now (a.h / 0x100000000) i 64) c.before.start_of.ensures.0 ∙ sym (slot_some a.table.now a.h (sym t.before.may_hold.ensures ∙ t.if-may_hold.true))
 
 pub slot_of_spec : {M : Type 1} → statement M
 slot_of_spec =

@@ -14,7 +14,7 @@ decreases-loop-k text at from table last word₀ k₀ word k = k
 
 -- the bit that is added
 added : (c : tie.Joined-bit invariant-loop-k decreases-loop-k) → let l = c.before.before.before in let a = l.before.before.before.before.args in (c.if-bit.word ≤ 1) × (c.if-bit.word ≡ 1 → Lone a.text.now (a.at + (l.loop-k.k - 1)))
-added c = ⊎_elim (λ w. (omega (arith, w.1), λ e. c.before.is_lone-bit.ensures w.0.taken)) (λ w. (omega (arith, w.1), λ e. absurd (omega (arith, w.1)))) c.if-bit.branch-raw
+added c = ⊎_elim (λ w. (omega (arith, w.word-is), λ e. c.before.is_lone-bit.ensures w.if-bit.true)) (λ w. (omega (arith, w.word-is), λ e. absurd (omega (arith, w.word-is)))) c.if-bit.branch-raw
 
 loop-k-preserved : tie.Need-loop-k-preserved invariant-loop-k decreases-loop-k
 loop-k-preserved c =

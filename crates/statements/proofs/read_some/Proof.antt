@@ -45,7 +45,7 @@ module _ (t : tie.In-loop-cursor invariant-loop-cursor decreases-loop-cursor) wh
 
 -- the edges that are left, found or kept
 lefts : (j : tie.Joined-bits-eq0 invariant-loop-cursor decreases-loop-cursor) → let t = j.before in Left (s t) (i t) j.if-bits-eq0.base j.if-bits-eq0.bits
-lefts j = ⊎_elim (λ w. rw (w.2, w.3) w.1.ensures) (λ w. rw (w.1, w.2) (goes j.before).left) j.if-bits-eq0.branch-raw
+lefts j = ⊎_elim (λ w. rw (w.base-is, w.bits-is) w.find-bits.ensures) (λ w. rw (w.base-is, w.bits-is) (goes j.before).left) j.if-bits-eq0.branch-raw
 
 -- the token, told or read
 settled : (n : tie.Joined-token-eq-NoToken invariant-loop-cursor decreases-loop-cursor) → let j = n.before.before.before.before in let t = j.before in Taken (s t) (i t) j.if-bits-eq0.base n.if-token-eq-NoToken.token
@@ -56,8 +56,8 @@ settled n =
     ⊎_elim
     (λ w. subst is (sym w.9) (w.2.ensures (s t) (i t) (st t).requires.0 (inside t).1 w.1.ensures (lefts j)))
     (⊎_elim
-    (λ w. subst is (sym w.9) (w.2.ensures (s t) (i t) (st t).requires.0 (inside t).1 w.1.ensures (lefts j)))
-    (λ w. subst is (sym w.4) (n.before.before.plain-token.ensures w.0.left)))
+    (λ w. subst is (sym w.9) (w.wasted-is.ensures (s t) (i t) (st t).requires.0 (inside t).1 w.stop-is.ensures (lefts j)))
+    (λ w. subst is (sym w.token-is) (n.before.before.plain-token.ensures w.if-token-eq-NoToken.false)))
     n.if-token-eq-NoToken.branch-raw
 
 -- where the walk stops then
@@ -67,7 +67,7 @@ spared n =
     let g = (goes t).spared in
     ⊎_elim
     (λ w. rw w.6 (omega arith, λ l. absurd (omega arith)))
-    (⊎_elim (λ w. rw (w.6, w.7) (g.0, λ l. omega (arith, w.5.left))) (λ w. rw (w.1, w.2) g))
+    (⊎_elim (λ w. rw (w.6, w.7) (g.0, λ l. omega (arith, w.5.left))) (λ w. rw (w.stop-is, w.wasted-is) g))
     n.if-token-eq-NoToken.branch-raw
 
 module _ (n : tie.Joined-token-eq-NoToken invariant-loop-cursor decreases-loop-cursor) where

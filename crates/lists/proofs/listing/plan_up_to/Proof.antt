@@ -41,7 +41,7 @@ returns c =
           ∙ rw (
             le-ltb lean a.settings.mode e.if-settings-gt-LEAN.false,
             le-ltb max_query_size (length a.text.now) l,
-            up_to_chosen a.settings.mode a.settings.position j.if-settings-text.position a.text.now (⊎_elim (λ w. inl w.1) (λ w. inr (w.1, w.0.left)) j.if-settings-text.branch-raw),
+            up_to_chosen a.settings.mode a.settings.position j.if-settings-text.position a.text.now (⊎_elim (λ w. inl w.position-is) (λ w. inr (w.position-is, w.if-settings-text.false)) j.if-settings-text.branch-raw),
           ),
       c.plan_chosen.ensures.1,
     )

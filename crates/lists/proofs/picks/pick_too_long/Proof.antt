@@ -19,7 +19,7 @@ returns c s lone m =
     let f = c.before.before.before.before.before.args.from in
     record {
       plan = refl;
-      first = two-tokens f.cursor c.before.if-from-eq0.kind (omega arith) (⊎_elim (λ w. inl (w.0.taken, w.1)) (λ w. inr (w.0.left, w.1)) c.before.if-from-eq0.branch-raw);
+      first = two-tokens f.cursor c.before.if-from-eq0.kind (omega arith) (⊎_elim (λ w. inl (w.if-from-eq0.true, w.kind-is)) (λ w. inr (w.if-from-eq0.false, w.kind-is)) c.before.if-from-eq0.branch-raw);
       ready = marked_later s _ _ _ lone (omega arith) m;
     }
 

@@ -25,7 +25,7 @@ part c =
     (shown_sound a.text.now a.copy.now a.kind a.start a.end).done (sym n ∙ c.if-number-ne0.false)
 
 -- which of the two it is a part of
-of : (c : tie.After-hides) (b : Bool) → c.hides.result-1 ≡ b → let a = c.before.before.before.before.before.before.args in let s = cond b a.copy.now a.text.now in
+of : (c : tie.After-hides) (b : Bool) → c.hides.result ≡ b → let a = c.before.before.before.before.before.before.args in let s = cond b a.copy.now a.text.now in
     (a.end ≤ length s) × ((part_of s a.start a.end).bytes ≡ (shown_text a.text.now a.copy.now a.kind a.start a.end).bytes)
 of c b e =
     let a = c.before.before.before.before.before.before.args in

@@ -26,8 +26,8 @@ turn c =
     let x = l.before.before.args in
     let next = sum_more (mark_at x.mark x.text.now) x.from l.loop-k.k in
     ⊎_elim
-    (λ w. let m = ap bit (sym t.is_marked.ensures ∙ w.0.taken) in (omega (arith, w.1), omega (arith, w.1, next, m)))
-    (λ w. let m = ap bit (sym t.is_marked.ensures ∙ w.0.left) in (omega (arith, w.1), omega (arith, w.1, next, m)))
+    (λ w. let m = ap bit (sym t.is_marked.ensures ∙ w.if-is_marked.true) in (omega (arith, w.n-is), omega (arith, w.n-is, next, m)))
+    (λ w. let m = ap bit (sym t.is_marked.ensures ∙ w.if-is_marked.false) in (omega (arith, w.n-is), omega (arith, w.n-is, next, m)))
     c.if-is_marked.branch-raw
 
 returns : tie.Need-returns invariant-loop-k decreases-loop-k

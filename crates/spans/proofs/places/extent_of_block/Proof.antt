@@ -18,12 +18,12 @@ decreases-loop-k text from least₀ most₀ k₀ least most k = 128 - k
 low : (c : tie.Joined-a-least invariant-loop-k decreases-loop-k)
     → let l = c.before.before.before in
     (c.if-a-least.least ≤ l.loop-k.least) × (c.if-a-least.least ≤ get_or l.before.args.text.now (l.before.args.from + l.loop-k.k) 0)
-low c = ⊎_elim (λ w. (omega (arith, w.1), omega (arith, w.1))) (λ w. (omega (arith, w.1), omega (arith, w.1, w.0.left))) c.if-a-least.branch-raw
+low c = ⊎_elim (λ w. (omega (arith, w.least-is), omega (arith, w.least-is))) (λ w. (omega (arith, w.least-is), omega (arith, w.least-is, w.if-a-least.false))) c.if-a-least.branch-raw
 
 high : (c : tie.Joined-most-a invariant-loop-k decreases-loop-k)
     → let l = c.before.before.before.before in
     (l.loop-k.most ≤ c.if-most-a.most) × (get_or l.before.args.text.now (l.before.args.from + l.loop-k.k) 0 ≤ c.if-most-a.most)
-high c = ⊎_elim (λ w. (omega (arith, w.1), omega (arith, w.1))) (λ w. (omega (arith, w.1), omega (arith, w.1, w.0.left))) c.if-most-a.branch-raw
+high c = ⊎_elim (λ w. (omega (arith, w.most-is), omega (arith, w.most-is))) (λ w. (omega (arith, w.most-is), omega (arith, w.most-is, w.if-most-a.false))) c.if-most-a.branch-raw
 
 loop-k-preserved : tie.Need-loop-k-preserved invariant-loop-k decreases-loop-k
 loop-k-preserved c =

@@ -21,7 +21,7 @@ decreases-loop-i text upto n₀ i₀ n i = i
 from_is : (c : tie.Joined-upto-lt2 invariant-loop-i decreases-loop-i)
     → let x = c.before.before.before.args in
     (c.if-upto-lt2.from ≤ x.upto) × (128 ≤ c.if-upto-lt2.from → c.if-upto-lt2.from + 2 ≤ x.upto)
-from_is c = ⊎_elim (λ w. (omega (arith, w.1), λ h. omega (arith, w.1))) (λ w. (omega (arith, w.1), λ h. omega (arith, w.1))) c.if-upto-lt2.branch-raw
+from_is c = ⊎_elim (λ w. (omega (arith, w.from-is), λ h. omega (arith, w.from-is))) (λ w. (omega (arith, w.from-is), λ h. omega (arith, w.from-is))) c.if-upto-lt2.branch-raw
 
 returns-then-from-last : tie.Need-returns-then-from-last invariant-loop-i decreases-loop-i
 returns-then-from-last c = starts_near c.before.before.line_by_byte-last.ensures c.if-from-last.true
@@ -32,13 +32,13 @@ loop-i-init c =
     let s = x.text.now in
     ⊎_elim
     (λ w.
-    let p = w.2.ensures in
-    let f = from_is (record { before = record { before = c.before; if1 = w.0 }; if2 = w.1 }) in
-    let same : w.2.result.start ≡ c.if-text-upto-lt2.i = omega (arith, p.low, w.4.left, w.5) in
-    (omega (arith, f.0, w.5), λ h. omega (arith, f.1 (omega (arith, w.5)), w.5, c.before.before.requires), ap (λ (k : ℕ). between (end_at s) k x.upto) (sym same) ∙ p.none, omega (arith, w.5, p.more, ap (λ (k : ℕ). between (surplus_at s) k x.upto) same)))
+    let p = w.line_by_byte-last.ensures in
+    let f = from_is (record { before = record { before = c.before; if-text-upto-lt2 = w.if-text-upto-lt2 }; if-upto-lt2 = w.if-upto-lt2 }) in
+    let same : w.line_by_byte-last.result.start ≡ c.if-text-upto-lt2.i = omega (arith, p.low, w.if-from-last.false, w.n-is) in
+    (omega (arith, f.0, w.n-is), λ h. omega (arith, f.1 (omega (arith, w.n-is)), w.n-is, c.before.before.requires), ap (λ (k : ℕ). between (end_at s) k x.upto) (sym same) ∙ p.none, omega (arith, w.n-is, p.more, ap (λ (k : ℕ). between (surplus_at s) k x.upto) same)))
     (λ w.
-    let same : x.upto ≡ c.if-text-upto-lt2.i = omega (arith, w.1) in
-    (omega arith, λ h. omega (arith, same, w.0.left), ap (λ (k : ℕ). between (end_at s) k x.upto) (sym same) ∙ sum_none (end_at s) x.upto, omega (arith, w.1, sum_none (surplus_at s) x.upto, ap (λ (k : ℕ). between (surplus_at s) k x.upto) same)))
+    let same : x.upto ≡ c.if-text-upto-lt2.i = omega (arith, w.n-is) in
+    (omega arith, λ h. omega (arith, same, w.if-text-upto-lt2.false), ap (λ (k : ℕ). between (end_at s) k x.upto) (sym same) ∙ sum_none (end_at s) x.upto, omega (arith, w.n-is, sum_none (surplus_at s) x.upto, ap (λ (k : ℕ). between (surplus_at s) k x.upto) same)))
     c.if-text-upto-lt2.branch-raw
 
 count-requires : tie.Need-count-requires invariant-loop-i decreases-loop-i
@@ -61,8 +61,8 @@ quiet c =
     let s = x.text.now in
     let at = l.loop-i.i - 128 in
     ⊎_elim
-    (λ w. ap (between (end_at s) at) (sym e) ∙ sym (end_marks s at (at + 128)) ∙ omega (arith, w.1.ensures, w.2.left))
-    (λ w. ends_high s at l.loop-i.i (omega arith) (λ k p u. omega (arith, c.before.before.extent_of_block-e.ensures.low k p (omega arith), w.left)))
+    (λ w. ap (between (end_at s) at) (sym e) ∙ sym (end_marks s at (at + 128)) ∙ omega (arith, w.count.ensures, w.if-count-ne0.false))
+    (λ w. ends_high s at l.loop-i.i (omega arith) (λ k p u. omega (arith, c.before.before.extent_of_block-e.ensures.low k p (omega arith), w.if-e-le13.false)))
     c.if-e-le13.branch-raw
 
 -- the surplus with the block's

@@ -39,8 +39,8 @@ turn c =
     let s = l.before.before.before.before.args.text.now in
     let next = sum_next (end_at s) 0 l.loop-i-2.i (omega arith) in
     ⊎_elim
-    (λ w. let m = ap bit (sym c.before.end_at.ensures ∙ w.0.taken) in omega (arith, w.1, next, m))
-    (λ w. let m = ap bit (sym c.before.end_at.ensures ∙ w.0.left) in omega (arith, w.1, next, m))
+    (λ w. let m = ap bit (sym c.before.end_at.ensures ∙ w.if-end_at.true) in omega (arith, w.n-is, next, m))
+    (λ w. let m = ap bit (sym c.before.end_at.ensures ∙ w.if-end_at.false) in omega (arith, w.n-is, next, m))
     c.if-end_at.branch-raw
 
 overflow_add-n : tie.Need-overflow_add-n invariant-loop-i decreases-loop-i invariant-loop-i-2 decreases-loop-i-2
