@@ -17,7 +17,7 @@ module _ (c : tie.After-tokenize) where
   text = c.before.before.before.before.before.before.args.text.now
 
   abbrev list : List ℕ
-  list = c.before.before.before.before.before.before.args.list-1.now
+  list = c.before.before.before.before.before.before.args.list.now
 
   listed : written c.tokenize.result c.tokenize.new.1.1.0 ≡ listing mode text list
   listed = c.tokenize.ensures ∙ ap (λ (m : ℕ). listing m text list) c.before.before.set_mode.ensures.0

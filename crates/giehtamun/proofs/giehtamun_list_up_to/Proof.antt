@@ -20,7 +20,7 @@ module _ (c : tie.After-tokenize_up_to_position) where
   text = c.before.before.before.before.before.before.before.args.text.now
 
   abbrev list : List ℕ
-  list = c.before.before.before.before.before.before.before.args.list-1.now
+  list = c.before.before.before.before.before.before.before.args.list.now
 
   listed : written c.tokenize_up_to_position.result c.tokenize_up_to_position.new.1.1.0
       ≡ listing_up_to mode position text list

@@ -11,7 +11,7 @@ pack-requires : tie.Need-pack-requires
 pack-requires c κs =
     let l = c.before.before in
     let a = l.before.before.before.before.args in
-    let f = fits_loading a.file.now a.list-1.now in
+    let f = fits_loading a.file.now a.list.now in
     let n = ap (λ (x : Loaded). x.number) l.load-loaded.ensures in
     let g = ap (λ (x : Loaded). x.flag) l.load-loaded.ensures in
     let v = ap (λ (x : Loaded). x.value) l.load-loaded.ensures in

@@ -8,7 +8,7 @@ pack_answer-requires : tie.Need-pack_answer-requires
 pack_answer-requires c κs =
     let m = c.before.before in
     let a = m.before.before.before.before.args in
-    fits m.mask.result _ _ m.mask.ensures (fits_copy a.text.now a.copy-1.now)
+    fits m.mask.result _ _ m.mask.ensures (fits_copy a.text.now a.copy.now)
 
 returns : tie.Need-returns
 returns c = let m = c.before.before.before in is-packed m.mask.result _ _ m.mask.ensures _ c.pack_answer.ensures

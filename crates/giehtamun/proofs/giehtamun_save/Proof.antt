@@ -11,7 +11,7 @@ pack-requires : tie.Need-pack-requires
 pack-requires c κs =
     let s = c.before.before in
     let a = s.before.before.before.before.before.args in
-    let f = fits_saving a.text.now a.list.now a.flag a.file-1.now in
+    let f = fits_saving a.text.now a.list.now a.flag a.file.now in
     let n = ap (λ (w : Written). w.number) s.save-saved.ensures in
     let v = ap (λ (w : Written). w.value) s.save-saved.ensures in
     (omega (arith, f.0), omega arith, omega (arith, f.1))

@@ -38,10 +38,10 @@ module _ (t : tie.In-loop-cursor invariant-loop-cursor decreases-loop-cursor) wh
   i = t.before.loop-cursor.cursor
 
   goes : Goes s (length s) st.args.from.cursor t.before.loop-cursor.stop t.before.loop-cursor.wasted t.before.loop-cursor.base t.before.loop-cursor.bits i
-  goes = t.before.loop-cursor.inv.0
+  goes = t.before.loop-cursor.invariant.0
 
   inside : (i < length s) × (i < length s)
-  inside = goes_inside s _ _ _ _ _ _ i goes (omega arith) t.loop-cursor-test.true-token
+  inside = goes_inside s _ _ _ _ _ _ i goes (omega arith) t.loop-cursor-test.true
 
 -- the edges that are left, found or kept
 lefts : (j : tie.Joined-bits-eq0 invariant-loop-cursor decreases-loop-cursor) → let t = j.before in Left (s t) (i t) j.if-bits-eq0.base j.if-bits-eq0.bits
@@ -54,9 +54,9 @@ settled n =
     let t = j.before in
     let is : Next → Type 0 = Taken (s t) (i t) j.if-bits-eq0.base in
     ⊎_elim
-    (λ w. subst is (sym w.9) (w.2.ensures (s t) (i t) (st t).requires.0 (inside t).1 w.1.ensures (lefts j)))
+    (λ w. subst is (sym w.token-is) (w.taken-token.ensures (s t) (i t) (st t).requires.0 (inside t).1 w.read-lexed.ensures (lefts j)))
     (⊎_elim
-    (λ w. subst is (sym w.9) (w.wasted-is.ensures (s t) (i t) (st t).requires.0 (inside t).1 w.stop-is.ensures (lefts j)))
+    (λ w. subst is (sym w.token-is) (w.taken-token.ensures (s t) (i t) (st t).requires.0 (inside t).1 w.read-lexed.ensures (lefts j)))
     (λ w. subst is (sym w.token-is) (n.before.before.plain-token.ensures w.if-token-eq-NoToken.false)))
     n.if-token-eq-NoToken.branch-raw
 
@@ -66,8 +66,8 @@ spared n =
     let t = n.before.before.before.before.before in
     let g = (goes t).spared in
     ⊎_elim
-    (λ w. rw w.6 (omega arith, λ l. absurd (omega arith)))
-    (⊎_elim (λ w. rw (w.6, w.7) (g.0, λ l. omega (arith, w.5.left))) (λ w. rw (w.stop-is, w.wasted-is) g))
+    (λ w. rw w.stop-is (omega arith, λ l. absurd (omega arith)))
+    (⊎_elim (λ w. rw (w.stop-is, w.wasted-is) (g.0, λ l. omega (arith, w.if-wasted-ge-LOOK_AFTER.false))) (λ w. rw (w.stop-is, w.wasted-is) g))
     n.if-token-eq-NoToken.branch-raw
 
 module _ (n : tie.Joined-token-eq-NoToken invariant-loop-cursor decreases-loop-cursor) where
@@ -76,10 +76,10 @@ module _ (n : tie.Joined-token-eq-NoToken invariant-loop-cursor decreases-loop-c
 
   -- a turn moves the cursor on, and not past the end
   moves : (i n.before.before.before.before.before < r.end) × (r.end ≤ length (s n.before.before.before.before.before))
-  moves = let t = n.before.before.before.before.before in goes_moves (s t) _ _ _ _ _ _ (i t) (goes t) (omega arith) t.loop-cursor-test.true-token n.before.before.before.before.if-bits-eq0.base n.if-token-eq-NoToken.token (settled n)
+  moves = let t = n.before.before.before.before.before in goes_moves (s t) _ _ _ _ _ _ (i t) (goes t) (omega arith) t.loop-cursor-test.true n.before.before.before.before.if-bits-eq0.base n.if-token-eq-NoToken.token (settled n)
 
   on : let t = n.before.before.before.before.before in Goes (s t) (length (s t)) (st t).args.from.cursor n.if-token-eq-NoToken.stop n.if-token-eq-NoToken.wasted n.before.before.before.before.if-bits-eq0.base n.if-token-eq-NoToken.token.bits r.end
-  on = let t = n.before.before.before.before.before in goes_on (s t) _ _ _ _ _ _ (i t) (goes t) (omega arith) t.loop-cursor-test.true-token n.before.before.before.before.if-bits-eq0.base n.if-token-eq-NoToken.token (settled n) _ _ (spared n)
+  on = let t = n.before.before.before.before.before in goes_on (s t) _ _ _ _ _ _ (i t) (goes t) (omega arith) t.loop-cursor-test.true n.before.before.before.before.if-bits-eq0.base n.if-token-eq-NoToken.token (settled n) _ _ (spared n)
 
 -- what a text is read up to, with no delimiter, is what it was read up to at first
 began : (t : tie.Start invariant-loop-cursor decreases-loop-cursor) → let f = t.args.from in let x = t.args.text.now in found x (read_up_to f.cursor f.tokens (length x)) ≡ found x f

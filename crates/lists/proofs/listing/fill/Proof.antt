@@ -22,7 +22,7 @@ abbrev decreases-loop-at : tie.decreases-loop-at
 decreases-loop-at text choice list₀ at₀ list at = length text - at.cursor
 
 -- all that is stored so far
-held : (l : tie.At-loop-at invariant-loop-at decreases-loop-at) → let a = l.before.before.before.before.before.before.before.before.before.before.args in Filled (chosen a.choice a.text.now 0) a.list-1.now l.loop-at.list-1 l.loop-at.at.bytes (chosen a.choice a.text.now l.loop-at.at.cursor)
+held : (l : tie.At-loop-at invariant-loop-at decreases-loop-at) → let a = l.before.before.before.before.before.before.before.before.before.before.args in Filled (chosen a.choice a.text.now 0) a.list.now l.loop-at.list l.loop-at.at.bytes (chosen a.choice a.text.now l.loop-at.at.cursor)
 held l = packs_both _ _ _ _ _ _ l.before.before.before.fill_some-at.ensures.packs _ _ _ l.loop-at.invariant.1
 
 -- before the position 0 starts no token

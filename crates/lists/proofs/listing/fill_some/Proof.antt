@@ -40,10 +40,10 @@ module _ (t : tie.In-loop-cursor invariant-loop-cursor decreases-loop-cursor) wh
   i = t.before.loop-cursor.cursor
 
   goes : Goes s st.args.choice.position st.args.from.cursor t.before.loop-cursor.stop t.before.loop-cursor.wasted t.before.loop-cursor.base t.before.loop-cursor.bits i
-  goes = t.before.loop-cursor.inv.0
+  goes = t.before.loop-cursor.invariant.0
 
   inside : (i < st.args.choice.position) × (i < length s)
-  inside = goes_inside s _ _ _ _ _ _ i goes st.requires.1 t.loop-cursor-test.true-token
+  inside = goes_inside s _ _ _ _ _ _ i goes st.requires.1 t.loop-cursor-test.true
 
 -- the edges that are left, found or kept
 lefts : (j : tie.Joined-bits-eq0 invariant-loop-cursor decreases-loop-cursor) → let t = j.before in Left (s t) (i t) j.if-bits-eq0.base j.if-bits-eq0.bits
@@ -56,11 +56,11 @@ settled n =
     let t = j.before in
     let is : Next → Type 0 = Taken (s t) (i t) j.if-bits-eq0.base in
     ⊎_elim
-    (λ w. subst is (sym w.10) (w.2.ensures (s t) (i t) (st t).requires.0 (inside t).1 w.1.ensures (lefts j)))
+    (λ w. subst is (sym w.token-is) (w.taken-token.ensures (s t) (i t) (st t).requires.0 (inside t).1 w.read-lexed.ensures (lefts j)))
     (⊎_elim
-    (λ w. subst is (sym w.10) (w.wasted-is.ensures (s t) (i t) (st t).requires.0 (inside t).1 w.stop-is.ensures (lefts j)))
+    (λ w. subst is (sym w.token-is) (w.taken-token.ensures (s t) (i t) (st t).requires.0 (inside t).1 w.read-lexed.ensures (lefts j)))
     (⊎_elim
-    (λ w. subst is (sym w.9) (w.wasted-is.ensures (s t) (i t) (st t).requires.0 (inside t).1 w.stop-is.ensures (lefts j)))
+    (λ w. subst is (sym w.token-is) (w.taken-token.ensures (s t) (i t) (st t).requires.0 (inside t).1 w.read-lexed.ensures (lefts j)))
     (λ w. subst is (sym w.token-is) (n.before.before.plain-token.ensures w.if-token-eq-NoToken.false))))
     n.if-token-eq-NoToken.branch-raw
 
@@ -70,8 +70,8 @@ spared n =
     let t = n.before.before.before.before.before in
     let g = (goes t).spared in
     ⊎_elim
-    (λ w. rw w.7 (omega arith, λ l. absurd (omega arith)))
-    (⊎_elim (λ w. rw (w.7, w.8) (g.0, λ l. omega (arith, w.6.left))) (⊎_elim (λ w. rw (w.6, w.7) g) (λ w. rw (w.stop-is, w.wasted-is) g)))
+    (λ w. rw w.stop-is (omega arith, λ l. absurd (omega arith)))
+    (⊎_elim (λ w. rw (w.stop-is, w.wasted-is) (g.0, λ l. omega (arith, w.if-wasted-ge-LOOK_AFTER.false))) (⊎_elim (λ w. rw (w.stop-is, w.wasted-is) g) (λ w. rw (w.stop-is, w.wasted-is) g)))
     n.if-token-eq-NoToken.branch-raw
 
 module _ (n : tie.Joined-token-eq-NoToken invariant-loop-cursor decreases-loop-cursor) where
@@ -80,14 +80,14 @@ module _ (n : tie.Joined-token-eq-NoToken invariant-loop-cursor decreases-loop-c
 
   -- a turn moves the cursor on, and not past the end
   moves : (i n.before.before.before.before.before < r.end) × (r.end ≤ length (s n.before.before.before.before.before))
-  moves = let t = n.before.before.before.before.before in goes_moves (s t) _ _ _ _ _ _ (i t) (goes t) (st t).requires.1 t.loop-cursor-test.true-token n.before.before.before.before.if-bits-eq0.base n.if-token-eq-NoToken.token (settled n)
+  moves = let t = n.before.before.before.before.before in goes_moves (s t) _ _ _ _ _ _ (i t) (goes t) (st t).requires.1 t.loop-cursor-test.true n.before.before.before.before.if-bits-eq0.base n.if-token-eq-NoToken.token (settled n)
 
   on : let t = n.before.before.before.before.before in Goes (s t) (st t).args.choice.position (st t).args.from.cursor n.if-token-eq-NoToken.stop n.if-token-eq-NoToken.wasted n.before.before.before.before.if-bits-eq0.base n.if-token-eq-NoToken.token.bits r.end
-  on = let t = n.before.before.before.before.before in goes_on (s t) _ _ _ _ _ _ (i t) (goes t) (st t).requires.1 t.loop-cursor-test.true-token n.before.before.before.before.if-bits-eq0.base n.if-token-eq-NoToken.token (settled n) _ _ (spared n)
+  on = let t = n.before.before.before.before.before in goes_on (s t) _ _ _ _ _ _ (i t) (goes t) (st t).requires.1 t.loop-cursor-test.true n.before.before.before.before.if-bits-eq0.base n.if-token-eq-NoToken.token (settled n) _ _ (spared n)
 
 -- a token that is kept is the first of those left
 kept : (c : tie.Then-keeps invariant-loop-cursor decreases-loop-cursor) → let n = c.before.before in let t = n.before.before.before.before.before in let a = (st t).args in
-    Packs a.list-1.now a.from.bytes (chosen a.choice (s t) a.from.cursor) n.before.before.before.before.before.before.loop-cursor.list-1 n.before.before.before.before.before.before.loop-cursor.bytes (token (r n).kind (i t) (r n).end ∷ chosen a.choice (s t) (r n).end)
+    Packs a.list.now a.from.bytes (chosen a.choice (s t) a.from.cursor) n.before.before.before.before.before.before.loop-cursor.list n.before.before.before.before.before.before.loop-cursor.bytes (token (r n).kind (i t) (r n).end ∷ chosen a.choice (s t) (r n).end)
 kept c =
     let n = c.before.before in
     let t = n.before.before.before.before.before in
@@ -95,7 +95,7 @@ kept c =
     (chosen_keep (st t).args.choice (s t) (i t) (r n) (settled n).0 (st t).requires.1 (inside t).0 (sym c.before.keeps.ensures ∙ c.if-keeps.true))
     n.before.before.before.before.before.before.loop-cursor.invariant.1
 
-room : (c : tie.Then-keeps invariant-loop-cursor decreases-loop-cursor) → let l = c.before.before.before.before.before.before.before.before in l.loop-cursor.bytes + token_bytes ≤ length l.loop-cursor.list-1
+room : (c : tie.Then-keeps invariant-loop-cursor decreases-loop-cursor) → let l = c.before.before.before.before.before.before.before.before in l.loop-cursor.bytes + token_bytes ≤ length l.loop-cursor.list
 room c = packs_room _ _ _ _ _ _ _ (kept c) (st c.before.before.before.before.before.before.before).requires.3
 
 loop-cursor-preserved-then-keeps : tie.Need-loop-cursor-preserved-then-keeps invariant-loop-cursor decreases-loop-cursor

@@ -9,25 +9,24 @@ use Rattle.lists.proofs.listing.store.Tie as tie
 
 store_chosen-requires : tie.Need-store_chosen-requires
 store_chosen-requires c κs =
-    let s = c.before.before.before.before.before.before in
-    subst (λ (p : Plan). Follows p s.args.text.now) c.before.before.plan-in-List-1.given.1 s.requires
+    subst (λ (p : Plan). Follows p c.args.text.now) c.in-List.is c.requires
 
 returns-in-Refused : tie.Need-returns-in-Refused
 returns-in-Refused c =
-    let a = c.before.before.before.before.before.args in
-    ap (λ (p : Plan). packed_by (plan_of p a.text.now) a.list-1.now) (sym c.before.plan-1.given.1)
+    let a = c.args in
+    ap (λ (p : Plan). packed_by (plan_of p a.text.now) a.list.now) (sym c.in-Refused.is)
 
 returns-in-TooLong : tie.Need-returns-in-TooLong
 returns-in-TooLong c =
     let r = c.before.before in
-    let a = r.before.before.before.before.before.before.args in
-    r.store_too_long.ensures ∙ ap (λ (p : Plan). packed_by (plan_of p a.text.now) a.list-1.now) (sym r.before.before.enum_told-1.given.1)
+    let a = c.args in
+    r.store_too_long.ensures ∙ ap (λ (p : Plan). packed_by (plan_of p a.text.now) a.list.now) (sym c.in-TooLong.is)
 
 returns-in-List : tie.Need-returns-in-List
 returns-in-List c =
     let r = c.before.before in
-    let a = r.before.before.before.before.before.before.before.args in
-    r.store_chosen.ensures ∙ ap (λ (p : Plan). packed_by (plan_of p a.text.now) a.list-1.now) (sym r.before.before.before.plan-in-List-1.given.1)
+    let a = c.args in
+    r.store_chosen.ensures ∙ ap (λ (p : Plan). packed_by (plan_of p a.text.now) a.list.now) (sym c.in-List.is)
 
 pub store_spec : {M : Type 1} → statement M
 store_spec =

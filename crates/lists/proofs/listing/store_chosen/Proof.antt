@@ -11,7 +11,7 @@ use Rattle.lists.proofs.listing.store_chosen.Statement.{statement}
 use Rattle.lists.proofs.listing.store_chosen.Tie as tie
 
 -- past the test
-has_room : (c : tie.Else-room-tokens) → let a = c.before.before.before.before.before.args in length (chosen a.choice a.text.now 0) ≤ room a.list-1.now
+has_room : (c : tie.Else-room-tokens) → let a = c.before.before.before.before.before.args in length (chosen a.choice a.text.now 0) ≤ room a.list.now
 has_room c = let l = rw c.before.before.token_bytes.ensures at c.if-room-tokens.false in omega (arith, c.before.needed-tokens.ensures.0)
 
 returns-then-room-tokens : tie.Need-returns-then-room-tokens
@@ -19,7 +19,7 @@ returns-then-room-tokens c =
     let a = c.before.before.before.before.before.args in
     let n = c.before.needed-tokens.ensures.1 c.if-room-tokens.true in
     let l = rw c.before.before.token_bytes.ensures at c.if-room-tokens.true in
-    stored-not (chosen a.choice a.text.now 0) Done a.list-1.now _ n (omega arith)
+    stored-not (chosen a.choice a.text.now 0) Done a.list.now _ n (omega arith)
 
 fill-requires : tie.Need-fill-requires
 fill-requires c κs =
@@ -31,7 +31,7 @@ returns c =
     let f = c.before.before in
     let e = f.before.before in
     let a = e.before.before.before.before.before.args in
-    stored_all (chosen a.choice a.text.now 0) Done a.list-1.now _ f.fill.ensures.0 _ (has_room e) f.fill.ensures.1
+    stored_all (chosen a.choice a.text.now 0) Done a.list.now _ f.fill.ensures.0 _ (has_room e) f.fill.ensures.1
 
 pub store_chosen_spec : {M : Type 1} → statement M
 store_chosen_spec =

@@ -16,17 +16,17 @@ use Rattle.lists.proofs.listing.store_too_long.Statement.{statement}
 use Rattle.lists.proofs.listing.store_too_long.Tie as tie
 
 returns-then-list-token_bytes-lt2 : tie.Need-returns-then-list-token_bytes-lt2
-returns-then-list-token_bytes-lt2 c = stored-not too_long_list TooLong c.before.before.before.args.list-1.now 2 refl (rw c.before.token_bytes.ensures at c.if-list-token_bytes-lt2.true)
+returns-then-list-token_bytes-lt2 c = stored-not too_long_list TooLong c.before.before.before.args.list.now 2 refl (rw c.before.token_bytes.ensures at c.if-list-token_bytes-lt2.true)
 
 -- past the test
-has_room : (c : tie.Else-list-token_bytes-lt2) → 2 ≤ room c.before.before.before.args.list-1.now
+has_room : (c : tie.Else-list-token_bytes-lt2) → 2 ≤ room c.before.before.before.args.list.now
 has_room c = rw c.before.token_bytes.ensures at c.if-list-token_bytes-lt2.false
 
-fits : (c : tie.Else-list-token_bytes-lt2) → length too_long_list * token_bytes ≤ length c.before.before.before.args.list-1.now
+fits : (c : tie.Else-list-token_bytes-lt2) → length too_long_list * token_bytes ≤ length c.before.before.before.args.list.now
 fits c = omega (arith, has_room c)
 
 -- the first token is stored
-first : (c : tie.After-put_token-at) → Filled too_long_list c.before.before.before.before.before.args.list-1.now c.put_token-at.new.0 c.put_token-at.result (token EndOfStream 0 0 ∷ [])
+first : (c : tie.After-put_token-at) → Filled too_long_list c.before.before.before.before.before.args.list.now c.put_token-at.new.list c.put_token-at.result (token EndOfStream 0 0 ∷ [])
 first c = filled_more too_long_list _ _ 0 (fits c.before.before) _ _ (filled_none too_long_list _) _ _ c.put_token-at.ensures.0 c.put_token-at.ensures.1
 
 returns : tie.Need-returns

@@ -11,7 +11,7 @@ returns c =
     let r = c.before.before in
     let p = r.before.before in
     let a = p.before.before.before.args in
-    r.store.ensures ∙ ap (λ (p : Plan). packed_by p a.list-1.now) p.plan_whole-plan.ensures.0 ∙ sym (whole_planned a.settings.mode a.text.now a.list-1.now)
+    r.store.ensures ∙ ap (λ (p : Plan). packed_by p a.list.now) p.plan_whole-plan.ensures.0 ∙ sym (whole_planned a.settings.mode a.text.now a.list.now)
 
 pub tokenize_spec : {M : Type 1} → statement M
 tokenize_spec = tie.close (tie.spec (λ c κs. search rules) (λ c κs. c.before.plan_whole-plan.ensures.1) (λ c. search rules) returns)

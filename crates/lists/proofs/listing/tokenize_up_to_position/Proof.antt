@@ -11,7 +11,7 @@ returns c =
     let r = c.before.before in
     let p = r.before.before in
     let a = p.before.before.before.args in
-    r.store.ensures ∙ ap (λ (p : Plan). packed_by p a.list-1.now) p.plan_up_to-plan.ensures.0 ∙ sym (up_to_planned a.settings.mode a.settings.position a.text.now a.list-1.now)
+    r.store.ensures ∙ ap (λ (p : Plan). packed_by p a.list.now) p.plan_up_to-plan.ensures.0 ∙ sym (up_to_planned a.settings.mode a.settings.position a.text.now a.list.now)
 
 pub tokenize_up_to_position_spec : {M : Type 1} → statement M
 tokenize_up_to_position_spec = tie.close (tie.spec (λ c κs. search rules) (λ c κs. c.before.plan_up_to-plan.ensures.1) (λ c. search rules) returns)

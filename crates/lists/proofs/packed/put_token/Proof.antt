@@ -14,8 +14,8 @@ returns c =
     let c₁ = c₂.before.before.before.before in
     let a = c₁.before.before.before.args in (
       omega arith,
-      put_both a.list-1.now _ _ (bytes_of32 a.kind ++ bytes_of32 a.start) (bytes_of32 a.end) _ _
-          (put_both a.list-1.now _ _ (bytes_of32 a.kind) (bytes_of32 a.start) _ _ c₁.put_u32-at.ensures.1 c₁.put_u32-at.ensures.0 c₂.put_u32-at-2.ensures.1)
+      put_both a.list.now _ _ (bytes_of32 a.kind ++ bytes_of32 a.start) (bytes_of32 a.end) _ _
+          (put_both a.list.now _ _ (bytes_of32 a.kind) (bytes_of32 a.start) _ _ c₁.put_u32-at.ensures.1 c₁.put_u32-at.ensures.0 c₂.put_u32-at-2.ensures.1)
           (omega arith) c₃.put_u32.ensures.1,
     )
 

@@ -17,29 +17,28 @@ use Rattle.lists.proofs.picks.answer_in.Tie as tie
 
 count-n-requires : tie.Need-count-n-requires
 count-n-requires c κs =
-    let s = c.before.before.before.before in
-    subst (λ (p : Plan). Follows p s.args.text.now) c.before.plan-in-List-1.given.1 s.requires
+    subst (λ (p : Plan). Follows p c.args.text.now) c.in-List.is c.requires
 
 returns-in-Refused : tie.Need-returns-in-Refused
 returns-in-Refused c =
-    let s = c.before.before.before.before in
-    let e = c.before.plan-1.given.1 in
-    subst (λ (p : Plan). Answered c.before.plan-1.given.0.0 (outcome (plan_of p s.args.text.now) s.args.room)) (sym e) ((refl, refl), subst (λ (p : Plan). Follows p s.args.text.now) e s.requires)
+    let a = c.args in
+    let e = c.in-Refused.is in
+    subst (λ (p : Plan). Answered c.in-Refused.answer (outcome (plan_of p a.text.now) a.room)) (sym e) ((refl, refl), subst (λ (p : Plan). Follows p a.text.now) e c.requires)
 
 returns-in-TooLong : tie.Need-returns-in-TooLong
 returns-in-TooLong c =
-    let a = c.before.before.before.before.before.args in
-    let e = c.before.before.enum_told-1.given.1 in
+    let a = c.args in
+    let e = c.in-TooLong.is in
     subst (λ (p : Plan). Answered c.answer_of.result (outcome (plan_of p a.text.now) a.room)) (sym e)
     (answered_in TwoTokens c.before.fitted.result too_long_list TooLong a.room 2 c.answer_of.result refl (refl, refl) refl (c.before.fitted.ensures ∙ ap (cond (ltb a.room 2) (Refused (NoRoom 2))) e) c.answer_of.ensures)
 
 returns-in-List : tie.Need-returns-in-List
 returns-in-List c =
-    let a = c.before.before.before.before.before.before.before.args in
-    let k = c.before.before.before.before.plan-in-List-1.given in
+    let a = c.args in
+    let k = c.in-List in
     let n = c.before.before.count-n in
-    subst (λ (p : Plan). Answered c.answer_of-in-List.result (outcome (plan_of p a.text.now) a.room)) (sym k.1)
-    (answered_in (Listing k.0.0) c.before.fitted-in-List.result (chosen k.0.0 a.text.now 0) Done a.room n.result c.answer_of-in-List.result n.ensures (refl, refl) refl c.before.fitted-in-List.ensures c.answer_of-in-List.ensures)
+    subst (λ (p : Plan). Answered c.answer_of-in-List.result (outcome (plan_of p a.text.now) a.room)) (sym k.is)
+    (answered_in (Listing k.choice) c.before.fitted-in-List.result (chosen k.choice a.text.now 0) Done a.room n.result c.answer_of-in-List.result n.ensures (refl, refl) refl c.before.fitted-in-List.ensures c.answer_of-in-List.ensures)
 
 pub answer_in_spec : {M : Type 1} → statement M
 answer_in_spec =

@@ -72,7 +72,7 @@ returns c =
     let l = c.before.before.before.before in
     let v = l.loop-at.invariant in
     let a = l.before.before.before.args in
-    let n = picks_none a.text.now l.loop-at.at c.ended.result l.loop-at.lone-1 (λ i. records_of (chosen a.choice a.text.now i)) c.ended.ensures (ap records_of (pick_none a.choice a.text.now l.loop-at.at.cursor c.before.loop-at-test.false)) v.2 in
+    let n = picks_none a.text.now l.loop-at.at c.ended.result l.loop-at.lone (λ i. records_of (chosen a.choice a.text.now i)) c.ended.ensures (ap records_of (pick_none a.choice a.text.now l.loop-at.at.cursor c.before.loop-at-test.false)) v.2 in
     record { plan = n.plan ∙ v.0; first = ap records_of (sym v.1) ∙ n.first; ready = n.ready }
 
 pub pick_chosen_spec : {M : Type 1} → statement M

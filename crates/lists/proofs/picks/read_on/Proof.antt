@@ -17,21 +17,21 @@ parts k n = record { kind = k; end = n }
 
 read-lexed-requires : tie.Need-read-lexed-requires
 read-lexed-requires c κs =
-    let p = c.before.before.before.before.before.before.before.requires in
-    let l = c.before.before.before.looked-at.ensures in
+    let p = c.before.before.before.before.before.before.requires in
+    let l = c.before.before.looked-at.ensures in
     (p.0, omega (arith, l.1, p.1), l.3)
 
 returns : tie.Need-returns
 returns c =
-    let s = c.before.before.before.before.before.before.before.before.before.before.before.before.before in
-    let l = c.before.before.before.before.before.before.before.before.before.looked-at in
+    let s = c.before.before.before.before.before.before.before.before.before.before.before.before in
+    let l = c.before.before.before.before.before.before.before.before.looked-at in
     let e = ap₂ parts (ap (λ (n : ℕ). n % 64) c.before.before.before.kind_of.ensures) c.before.before.before.before.end_of-cursor.ensures ∙ c.before.before.before.before.before.read-lexed.ensures in
     record {
       plan = l.ensures.0;
       found = refl;
       lexed = e ∙ ap (λ (n : ℕ). ends_at n (lexeme (after_dot_at s.args.text.now n) (drop n s.args.text.now))) l.ensures.1;
       token = ap (λ (n : ℕ). token_of (token (c.before.before.before.kind_of.result % 64) n c.before.before.before.before.end_of-cursor.result)) l.ensures.1;
-      ready = marked_later s.args.text.now l.result.cursor c.before.before.before.before.end_of-cursor.result l.result.until l.new.1.1.0 (omega (arith, next_lies s.args.text.now l.result.cursor _ (omega (arith, s.requires.1, l.ensures.1)) e)) l.ensures.3;
+      ready = marked_later s.args.text.now l.result.cursor c.before.before.before.before.end_of-cursor.result l.result.until l.new.lone (omega (arith, next_lies s.args.text.now l.result.cursor _ (omega (arith, s.requires.1, l.ensures.1)) e)) l.ensures.3;
     }
 
 pub read_on_spec : {M : Type 1} → statement M

@@ -39,7 +39,7 @@ mask_tokens-requires c κs =
     let t = c.before.before.before in
     let a = t.before.before.before.before.before.before.before.before.before.args in
     let e = t.copy_front.ensures in
-    (ltb-false max_query_size _ (short t.before.before.before.before.before), e ∙ sym (ap (filled a.text.now) e ∙ filled_over a.text.now a.text.now a.copy-1.now refl))
+    (ltb-false max_query_size _ (short t.before.before.before.before.before), e ∙ sym (ap (filled a.text.now) e ∙ filled_over a.text.now a.text.now a.copy.now refl))
 
 returns : tie.Need-returns
 unfolding masked_copy
@@ -49,7 +49,7 @@ returns c =
     let r = t.before.before in
     let a = r.before.before.before.before.before.before.before.args in
     let s = a.text.now in
-    let f = m.mask_tokens.ensures ∙ ap (filled (masked s)) t.copy_front.ensures ∙ filled_over (masked s) s a.copy-1.now (length-masked s) in
+    let f = m.mask_tokens.ensures ∙ ap (filled (masked s)) t.copy_front.ensures ∙ filled_over (masked s) s a.copy.now (length-masked s) in
     rw (short r.before.before.before, is-valid r.before, le-ltb _ _ r.if-copy-size.false, f)
 
 pub mask_spec : {M : Type 1} → statement M

@@ -27,7 +27,7 @@ returns c =
     let b = h.before.before in
     let f = b.before in
     let a = f.before.before.before.args in
-    h.hide.ensures ∙ ap₂ (λ (m n : ℕ). hide (a.start + m) (a.end - n) a.copy-1.now) f.keeps_front.ensures b.keeps_back.ensures
+    h.hide.ensures ∙ ap₂ (λ (m n : ℕ). hide (a.start + m) (a.end - n) a.copy.now) f.keeps_front.ensures b.keeps_back.ensures
 
 pub mask_token_spec : {M : Type 1} → statement M
 mask_token_spec =

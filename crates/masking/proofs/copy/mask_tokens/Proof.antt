@@ -17,11 +17,11 @@ invariant-loop-at text copy₀ at₀ copy at = (at ≤ length text) × (length c
 abbrev decreases-loop-at : tie.decreases-loop-at
 decreases-loop-at text copy₀ at₀ copy at = length text - at
 
-has_room : (c : tie.Start invariant-loop-at decreases-loop-at) → length c.args.text.now ≤ length c.args.copy-1.now
-has_room c = filled-room c.args.text.now c.args.copy-1.now c.requires.1
+has_room : (c : tie.Start invariant-loop-at decreases-loop-at) → length c.args.text.now ≤ length c.args.copy.now
+has_room c = filled-room c.args.text.now c.args.copy.now c.requires.1
 
 -- the copy keeps its length
-same : (l : tie.At-loop-at invariant-loop-at decreases-loop-at) → length l.loop-at.copy-1 ≡ length l.before.before.before.before.before.before.before.before.before.args.copy-1.now
+same : (l : tie.At-loop-at invariant-loop-at decreases-loop-at) → length l.loop-at.copy ≡ length l.before.before.before.before.before.before.before.before.before.args.copy.now
 same l = l.loop-at.invariant.1 ∙ l.before.before.before.mask_some-at.ensures.len
 
 -- an empty text is its own copy
@@ -29,16 +29,16 @@ returns-then-text-eq0 : tie.Need-returns-then-text-eq0 invariant-loop-at decreas
 returns-then-text-eq0 c =
     let g = c.before.before.before in
     let room = has_room g in
-    copied_all g.args.text.now g.args.copy-1.now room g.args.copy-1.now 0 (omega arith) (copied_none g.args.text.now g.args.copy-1.now room g.requires.1)
+    copied_all g.args.text.now g.args.copy.now room g.args.copy.now 0 (omega arith) (copied_none g.args.text.now g.args.copy.now room g.requires.1)
 
 returns : tie.Need-returns invariant-loop-at decreases-loop-at
 returns c =
     let l = c.before in
     let g = c.before.before.before.before.before.before.before.before.before.before in
     let text = g.args.text.now in
-    let first = g.args.copy-1.now in
+    let first = g.args.copy.now in
     let room = has_room g in
-    copied_all text first room l.loop-at.copy-1 l.loop-at.at c.loop-at-test.false (l.loop-at.invariant.2 first room (l.before.before.before.mask_some-at.ensures.masks first room (copied_none text first room g.requires.1)))
+    copied_all text first room l.loop-at.copy l.loop-at.at c.loop-at-test.false (l.loop-at.invariant.2 first room (l.before.before.before.mask_some-at.ensures.masks first room (copied_none text first room g.requires.1)))
 
 pub mask_tokens_spec : {M : Type 1} → statement M
 mask_tokens_spec =

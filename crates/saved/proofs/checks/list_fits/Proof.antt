@@ -47,7 +47,7 @@ module _ (c : tie.After-get_token-token invariant-loop-left decreases-loop-left)
   rest = unpack (l.loop-left.false - 1) (drop (l.loop-left.at + token_bytes) list)
 
   here : Reached st.args.size ts l.loop-left.end l.loop-left.fits (t ∷ rest)
-  here = subst (Reached st.args.size ts l.loop-left.end l.loop-left.fits) (unpack_more list l.loop-left.at l.loop-left.false (omega arith)) l.loop-left.inv.1
+  here = subst (Reached st.args.size ts l.loop-left.end l.loop-left.fits) (unpack_more list l.loop-left.at l.loop-left.false (omega arith)) l.loop-left.invariant.1
 
 goes : (c : tie.After-goes_on-fits invariant-loop-left decreases-loop-left) → let e = c.before in c.goes_on-fits.result ≡ goes_on (st e).args.size (l e).loop-left.end (t e)
 goes c = let e = c.before in c.goes_on-fits.ensures ∙ ap (λ (n : CodeToken). goes_on (st e).args.size (l e).loop-left.end (token n.kind n.start n.end)) e.get_token-token.ensures

@@ -45,7 +45,7 @@ module _ (c : tie.After-get_record-token invariant-loop-left decreases-loop-left
   rest = tokens_in end_bytes (l.loop-left.false - 1) t.end (drop (l.loop-left.at + record_bytes end_bytes) file)
 
   here : Reached st.args.size ts l.loop-left.end l.loop-left.fits (t ∷ rest)
-  here = subst (Reached st.args.size ts l.loop-left.end l.loop-left.fits) (records_more end_bytes l.loop-left.end file l.loop-left.at l.loop-left.false (omega arith)) l.loop-left.inv.1
+  here = subst (Reached st.args.size ts l.loop-left.end l.loop-left.fits) (records_more end_bytes l.loop-left.end file l.loop-left.at l.loop-left.false (omega arith)) l.loop-left.invariant.1
 
 goes : (c : tie.After-goes_on-fits invariant-loop-left decreases-loop-left) → let e = c.before in c.goes_on-fits.result ≡ goes_on (st e).args.size (l e).loop-left.end (t e)
 goes c = let e = c.before in c.goes_on-fits.ensures ∙ ap (λ (n : CodeToken). goes_on (st e).args.size (l e).loop-left.end (token n.kind n.start n.end)) e.get_record-token.ensures

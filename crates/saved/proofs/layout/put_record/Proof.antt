@@ -10,7 +10,7 @@ returns : tie.Need-returns
 returns c =
     let p = c.before.before in
     let a = p.before.before.before.args in
-    (p.put_u32.ensures.0, p.put_u32.ensures.1 ∙ ap (sets a.file-1.now a.at) (record_bytes_lem a.kind a.end))
+    (p.put_u32.ensures.0, p.put_u32.ensures.1 ∙ ap (sets a.file.now a.at) (record_bytes_lem a.kind a.end))
 
 pub put_record_spec : {M : Type 1} → statement M
 put_record_spec = tie.close (tie.spec (λ c. search rules) (λ c. search rules) (λ c κs. search rules) (λ c. search rules) returns)

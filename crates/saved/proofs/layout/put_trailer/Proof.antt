@@ -19,7 +19,7 @@ returns c =
     let c₂ = c₃.before.before.before.before in
     let c₁ = c₂.before.before.before.before in
     let a = c₁.before.before.before.args in
-    let l = a.file-1.now in (
+    let l = a.file.now in (
       omega arith,
       put_both l _ _ (bytes_of32 a.offset ++ bytes_of32 a.count) (bytes_of32 (a.flag + version * 256)) _ _
           (put_both l _ _ (bytes_of32 a.offset) (bytes_of32 a.count) _ _ c₁.put_u32-at.ensures.1 c₁.put_u32-at.ensures.0 c₂.put_u32-at-2.ensures.1)

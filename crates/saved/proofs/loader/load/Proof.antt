@@ -19,8 +19,8 @@ returns-then-text-ne0 : tie.Need-returns-then-text-ne0
 returns-then-text-ne0 c =
     let a = c.before.before.before.before.before.args in
     let e = c.before.before.saved_text_answer-text.ensures in
-    ap (λ (v : Verdict). refused_load v.number v.value a.list-1.now) e
-    ∙ sym (loading-refused a.file.now a.list-1.now (λ h. c.if-text-ne0.true (ap (λ (v : Verdict). v.number) e ∙ h)))
+    ap (λ (v : Verdict). refused_load v.number v.value a.list.now) e
+    ∙ sym (loading-refused a.file.now a.list.now (λ h. c.if-text-ne0.true (ap (λ (v : Verdict). v.number) e ∙ h)))
 
 -- past the first test
 module _ (c : tie.Else-text-ne0) where
@@ -41,14 +41,14 @@ returns-then-list-token_bytes c =
     let e = c.before.before.before in
     let a = e.before.before.before.before.before.args in
     let n = c.before.before.get_u32-records.ensures in
-    let less : room a.list-1.now < count_in (file e) = subst (λ (k : ℕ). length a.list-1.now / k < count_in (file e)) c.before.token_bytes.ensures (omega (arith, n, c.if-list-token_bytes.true)) in
-    ap (λ (k : ℕ). refused_load NoRoom k a.list-1.now) n ∙ sym (loading_no_room (file e) a.list-1.now (eq-eqb _ _ (done e)) less)
+    let less : room a.list.now < count_in (file e) = subst (λ (k : ℕ). length a.list.now / k < count_in (file e)) c.before.token_bytes.ensures (omega (arith, n, c.if-list-token_bytes.true)) in
+    ap (λ (k : ℕ). refused_load NoRoom k a.list.now) n ∙ sym (loading_no_room (file e) a.list.now (eq-eqb _ _ (done e)) less)
 
 -- past the second
-enough : (c : tie.Else-list-token_bytes) → let e = c.before.before.before in count_in (file e) ≤ room e.before.before.before.before.before.args.list-1.now
+enough : (c : tie.Else-list-token_bytes) → let e = c.before.before.before in count_in (file e) ≤ room e.before.before.before.before.before.args.list.now
 enough c =
     let e = c.before.before.before in
-    let l = length e.before.before.before.before.before.args.list-1.now in
+    let l = length e.before.before.before.before.before.args.list.now in
     subst (λ (k : ℕ). count_in (file e) ≤ l / k) c.before.token_bytes.ensures (omega (arith, c.before.before.get_u32-records.ensures, c.if-list-token_bytes.false))
 
 put_tokens-requires : tie.Need-put_tokens-requires
@@ -62,7 +62,7 @@ returns c =
     let p = c.before.before.before.before in
     let e₂ = p.before.before in
     let e = e₂.before.before.before in
-    let list = e.before.before.before.before.before.args.list-1.now in
+    let list = e.before.before.before.before.before.args.list.now in
     let n = e₂.before.before.get_u32-records.ensures in
     let bytes = p.put_tokens.ensures ∙ (λ i. filled (pack (tokens_in end_bytes (n i) 0 (drop (offset e i) (file e)))) list) in
     (λ i. record { number = Done; value = n i; flag = c.wide.ensures.0 i; buffer = bytes i }) ∙ sym (load_done (file e) list (opens e) (enough e₂))

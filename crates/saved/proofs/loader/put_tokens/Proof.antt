@@ -34,12 +34,12 @@ loop-left-preserved c =
     let v = l.invariant in
     let e = p.put_token-to.ensures in
     let file = g.before.before.before.before.before.args.file.now in
-    let is = e.1 ∙ ap (λ (t : CodeToken). sets l.list-1 l.to (pack_token (token t.kind t.start t.end))) g.get_record-token.ensures in
+    let is = e.1 ∙ ap (λ (t : CodeToken). sets l.list l.to (pack_token (token t.kind t.start t.end))) g.get_record-token.ensures in
     let end = ap (λ (t : CodeToken). t.end) g.get_record-token.ensures in (
       omega (arith, e.0, v.0),
       omega (arith, v.1),
-      ap length is ∙ length-sets l.list-1 l.to (pack_token (token_of_record end_bytes l.end (drop l.at file))) ∙ v.2,
-      ap (λ (k : ℕ). sets p.put_token-to.new.0 p.put_token-to.result (tokens_left file (l.at + record_bytes end_bytes) (l.left - 1) k)) end ∙ token_put file l.at l.left l.end l.list-1 _ l.to _ (omega arith) is e.0 ∙ v.3,
+      ap length is ∙ length-sets l.list l.to (pack_token (token_of_record end_bytes l.end (drop l.at file))) ∙ v.2,
+      ap (λ (k : ℕ). sets p.put_token-to.new.0 p.put_token-to.result (tokens_left file (l.at + record_bytes end_bytes) (l.left - 1) k)) end ∙ token_put file l.at l.left l.end l.list _ l.to _ (omega arith) is e.0 ∙ v.3,
     )
 
 returns : tie.Need-returns invariant-loop-left decreases-loop-left
@@ -51,8 +51,8 @@ returns c =
     let z : l.left ≡ 0 = omega arith in
     let n = length-pack (tokens_in end_bytes a.records 0 (drop a.from file)) in
     let m = length-tokens end_bytes a.records 0 (drop a.from file) in
-    tokens_put file l.at l.end l.list-1 l.to ∙ ap (λ (k : ℕ). sets l.list-1 l.to (tokens_left file l.at k l.end)) (sym z) ∙ v.3
-    ∙ file_filled [] (tokens_left file a.from a.records 0) a.list-1.now (omega (arith, n, m, c.before.before.before.before.requires.1))
+    tokens_put file l.at l.end l.list l.to ∙ ap (λ (k : ℕ). sets l.list l.to (tokens_left file l.at k l.end)) (sym z) ∙ v.3
+    ∙ file_filled [] (tokens_left file a.from a.records 0) a.list.now (omega (arith, n, m, c.before.before.before.before.requires.1))
 
 pub put_tokens_spec : {M : Type 1} → statement M
 put_tokens_spec =

@@ -28,7 +28,7 @@ module _ (c : tie.After-copy_front) where
   list = st.args.list.now
 
   abbrev file : List ℕ
-  file = st.args.file-1.now
+  file = st.args.file.now
 
   tokens : length list / c.before.before.token_bytes.result ≡ room list
   tokens = ap (λ (k : ℕ). length list / k) c.before.before.token_bytes.ensures

@@ -32,11 +32,11 @@ loop-left-preserved c =
     let n = c.token_bytes-at.ensures in
     let e = p.put_record-to.ensures in
     let list = g.before.before.before.before.before.args.list.now in
-    let is = e.1 ∙ ap (λ (t : CodeToken). sets l.file-1 l.to (record_of end_bytes (token t.kind 0 t.end))) g.get_token-token.ensures in (
+    let is = e.1 ∙ ap (λ (t : CodeToken). sets l.file l.to (record_of end_bytes (token t.kind 0 t.end))) g.get_token-token.ensures in (
       omega (arith, e.0, v.0),
       omega (arith, n, v.1),
-      ap length is ∙ length-sets l.file-1 l.to (record_of end_bytes (token_in list l.at)) ∙ v.2,
-      ap (λ (k : ℕ). sets p.put_record-to.new.0 p.put_record-to.result (records_left list (l.at + k) (l.left - 1))) n ∙ record_put list l.at l.left l.file-1 _ l.to _ (omega arith) is e.0 ∙ v.3,
+      ap length is ∙ length-sets l.file l.to (record_of end_bytes (token_in list l.at)) ∙ v.2,
+      ap (λ (k : ℕ). sets p.put_record-to.new.0 p.put_record-to.result (records_left list (l.at + k) (l.left - 1))) n ∙ record_put list l.at l.left l.file _ l.to _ (omega arith) is e.0 ∙ v.3,
     )
 
 returns : tie.Need-returns invariant-loop-left decreases-loop-left
@@ -45,7 +45,7 @@ returns c =
     let v = l.invariant in
     let list = c.before.before.before.before.args.list.now in
     let z : l.left ≡ 0 = omega arith in
-    (omega (arith, v.0), records_put list l.at l.file-1 l.to ∙ ap (λ (k : ℕ). sets l.file-1 l.to (records_left list l.at k)) (sym z) ∙ v.3)
+    (omega (arith, v.0), records_put list l.at l.file l.to ∙ ap (λ (k : ℕ). sets l.file l.to (records_left list l.at k)) (sym z) ∙ v.3)
 
 pub put_records_spec : {M : Type 1} → statement M
 put_records_spec =

@@ -24,8 +24,8 @@ returns-then-size-max_query_size : tie.Need-returns-then-size-max_query_size
 returns-then-size-max_query_size c =
     let t = c.before in
     let a = t.before.before.before.before.before.args in
-    ap (λ (v : Verdict). written v a.file-1.now) c.answer.ensures
-    ∙ sym (saving_long a.text.now a.list.now a.flag a.file-1.now (omega (arith, t.before.max_query_size.ensures, t.if-size-max_query_size.true)))
+    ap (λ (v : Verdict). written v a.file.now) c.answer.ensures
+    ∙ sym (saving_long a.text.now a.list.now a.flag a.file.now (omega (arith, t.before.max_query_size.ensures, t.if-size-max_query_size.true)))
 
 -- past the first test
 short : (c : tie.Else-size-max_query_size) → length c.before.before.before.before.before.args.text.now ≤ max_query_size
@@ -37,8 +37,8 @@ returns-then-not-is_writable c =
     let e = t.before.before in
     let a = e.before.before.before.before.before.args in
     let w = t.before.is_writable in
-    ap (λ (v : Verdict). written v a.file-1.now) c.answer-then-not-is_writable.ensures
-    ∙ sym (saving_malformed a.text.now a.list.now a.flag a.file-1.now (short e) (sym w.ensures ∙ t.if-not-is_writable.true))
+    ap (λ (v : Verdict). written v a.file.now) c.answer-then-not-is_writable.ensures
+    ∙ sym (saving_malformed a.text.now a.list.now a.flag a.file.now (short e) (sym w.ensures ∙ t.if-not-is_writable.true))
 
 -- past the second
 writes : (c : tie.Else-not-is_writable) → let a = c.before.before.before.before.before.before.before.args in writable a.text.now a.list.now a.flag ≡ true
@@ -51,8 +51,8 @@ returns-then-valid-size c =
     let e₁ = e₂.before.before in
     let a = e₁.before.before.before.before.before.args in
     let v = t.before.valid_length-valid.ensures in
-    ap (λ (v : Verdict). written v a.file-1.now) c.answer-then-valid-size.ensures ∙ ap (λ (n : ℕ). refused NotUtf8 n a.file-1.now) v
-    ∙ sym (saving-broken a.text.now a.list.now a.flag a.file-1.now (short e₁) (writes e₂) (λ h. t.if-valid-size.true (v ∙ h)))
+    ap (λ (v : Verdict). written v a.file.now) c.answer-then-valid-size.ensures ∙ ap (λ (n : ℕ). refused NotUtf8 n a.file.now) v
+    ∙ sym (saving-broken a.text.now a.list.now a.flag a.file.now (short e₁) (writes e₂) (λ h. t.if-valid-size.true (v ∙ h)))
 
 -- past the third
 module _ (c : tie.Else-valid-size) where
@@ -88,8 +88,8 @@ returns-then-file-bytes c =
     let t = n.before in
     let e = t.before in
     let a = (e₁ e).before.before.before.before.before.args in
-    ap (λ (v : Verdict). written v a.file-1.now) c.answer-then-file-bytes.ensures ∙ ap (λ (n : ℕ). refused NoRoom n a.file-1.now) (needed t)
-    ∙ sym (saving_no_room a.text.now a.list.now a.flag a.file-1.now (short (e₁ e)) (writes (e₂ e)) (proper e) (omega (arith, needed t, n.if-file-bytes.true)))
+    ap (λ (v : Verdict). written v a.file.now) c.answer-then-file-bytes.ensures ∙ ap (λ (n : ℕ). refused NoRoom n a.file.now) (needed t)
+    ∙ sym (saving_no_room a.text.now a.list.now a.flag a.file.now (short (e₁ e)) (writes (e₂ e)) (proper e) (omega (arith, needed t, n.if-file-bytes.true)))
 
 put_file-requires : tie.Need-put_file-requires
 put_file-requires c κs =
@@ -107,8 +107,8 @@ returns c =
     let t = e₄.before in
     let e = t.before in
     let a = (e₁ e).before.before.before.before.before.args in
-    (λ i. written (c.answer-2.ensures i) (p.put_file.ensures i)) ∙ ap (λ (n : ℕ). record { number = Done; value = n; buffer = filled (file_of a.text.now (tokens_of a.list.now) a.flag) a.file-1.now }) (needed t)
-    ∙ sym (saving_done a.text.now a.list.now a.flag a.file-1.now (short (e₁ e)) (writes (e₂ e)) (proper e) (omega (arith, needed t, e₄.if-file-bytes.false)))
+    (λ i. written (c.answer-2.ensures i) (p.put_file.ensures i)) ∙ ap (λ (n : ℕ). record { number = Done; value = n; buffer = filled (file_of a.text.now (tokens_of a.list.now) a.flag) a.file.now }) (needed t)
+    ∙ sym (saving_done a.text.now a.list.now a.flag a.file.now (short (e₁ e)) (writes (e₂ e)) (proper e) (omega (arith, needed t, e₄.if-file-bytes.false)))
 
 pub save_spec : {M : Type 1} → statement M
 save_spec =
