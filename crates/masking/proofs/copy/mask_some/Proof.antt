@@ -98,7 +98,7 @@ loop-cursor-preserved-then-hides c =
     let t = n.before.before.before.before.before in
     let v = n.before.before.before.before.before.before.loop-cursor.invariant in (
       on n,
-      m.mask_token.auto.1.0 ∙ v.1,
+      m.mask_token.auto.copy ∙ v.1,
       λ first room k. copied_more (s t) first room (i t) (inside t).1 (r n) (settled n).0 _ _ (v.2 first room k) m.mask_token.ensures,
     )
 
