@@ -44,10 +44,10 @@ module _ (c : tie.After-get_token-token invariant-loop-left decreases-loop-left)
   t = token_in list l.loop-left.at
 
   abbrev rest : List Token
-  rest = unpack (l.loop-left.false - 1) (drop (l.loop-left.at + token_bytes) list)
+  rest = unpack (l.loop-left.left - 1) (drop (l.loop-left.at + token_bytes) list)
 
   here : Reached st.args.size ts l.loop-left.end l.loop-left.fits (t ∷ rest)
-  here = subst (Reached st.args.size ts l.loop-left.end l.loop-left.fits) (unpack_more list l.loop-left.at l.loop-left.false (omega arith)) l.loop-left.invariant.1
+  here = subst (Reached st.args.size ts l.loop-left.end l.loop-left.fits) (unpack_more list l.loop-left.at l.loop-left.left (omega arith)) l.loop-left.invariant.1
 
 goes : (c : tie.After-goes_on-fits invariant-loop-left decreases-loop-left) → let e = c.before in c.goes_on-fits.result ≡ goes_on (st e).args.size (l e).loop-left.end (t e)
 goes c = let e = c.before in c.goes_on-fits.ensures ∙ ap (λ (n : CodeToken). goes_on (st e).args.size (l e).loop-left.end (token n.kind n.start n.end)) e.get_token-token.ensures
@@ -73,14 +73,14 @@ loop-left-preserved c =
     let end : (t e).end ≡ e.get_token-token.result.end = ap (λ (n : CodeToken). n.end) (sym e.get_token-token.ensures) in
     let fits : ((l e).loop-left.fits && goes_on (st e).args.size (l e).loop-left.end (t e)) ≡ ((l e).loop-left.fits && g.goes_on-fits.result) = ap (λ (b : Bool). (l e).loop-left.fits && b) (sym (goes g)) in
     let at : token_bytes ≡ c.token_bytes-at.result = sym n in
-    (omega (arith, n), subst (λ (x : ℕ × Bool × ℕ). Reached (st e).args.size (ts e) x.0 x.1 (unpack ((l e).loop-left.false - 1) (drop ((l e).loop-left.at + x.2) (list e)))) (λ i. (end i, fits i, at i)) r)
+    (omega (arith, n), subst (λ (x : ℕ × Bool × ℕ). Reached (st e).args.size (ts e) x.0 x.1 (unpack ((l e).loop-left.left - 1) (drop ((l e).loop-left.at + x.2) (list e)))) (λ i. (end i, fits i, at i)) r)
 
 returns : tie.Need-returns invariant-loop-left decreases-loop-left
 returns c =
     let l = c.before.before in
     let a = l.before.before.args in
     let ts = unpack a.tokens a.list.now in
-    let z : l.loop-left.false ≡ 0 = omega arith in
+    let z : l.loop-left.left ≡ 0 = omega arith in
     let none = subst (Reached a.size ts l.loop-left.end l.loop-left.fits) (ap (λ (k : ℕ). unpack k (drop l.loop-left.at a.list.now)) z ∙ unpack_none (drop l.loop-left.at a.list.now)) l.loop-left.invariant.1 in
     c.is_accepted.ensures ∙ sym (reached_all a.size ts l.loop-left.end l.loop-left.fits none a.flag)
 

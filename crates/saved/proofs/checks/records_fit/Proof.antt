@@ -42,10 +42,10 @@ module _ (c : tie.After-get_record-token invariant-loop-left decreases-loop-left
   t = token_of_record end_bytes l.loop-left.end (drop l.loop-left.at file)
 
   abbrev rest : List Token
-  rest = tokens_in end_bytes (l.loop-left.false - 1) t.end (drop (l.loop-left.at + record_bytes end_bytes) file)
+  rest = tokens_in end_bytes (l.loop-left.left - 1) t.end (drop (l.loop-left.at + record_bytes end_bytes) file)
 
   here : Reached st.args.size ts l.loop-left.end l.loop-left.fits (t ∷ rest)
-  here = subst (Reached st.args.size ts l.loop-left.end l.loop-left.fits) (records_more end_bytes l.loop-left.end file l.loop-left.at l.loop-left.false (omega arith)) l.loop-left.invariant.1
+  here = subst (Reached st.args.size ts l.loop-left.end l.loop-left.fits) (records_more end_bytes l.loop-left.end file l.loop-left.at l.loop-left.left (omega arith)) l.loop-left.invariant.1
 
 goes : (c : tie.After-goes_on-fits invariant-loop-left decreases-loop-left) → let e = c.before in c.goes_on-fits.result ≡ goes_on (st e).args.size (l e).loop-left.end (t e)
 goes c = let e = c.before in c.goes_on-fits.ensures ∙ ap (λ (n : CodeToken). goes_on (st e).args.size (l e).loop-left.end (token n.kind n.start n.end)) e.get_record-token.ensures
@@ -68,14 +68,14 @@ loop-left-preserved c =
     let r = reached_more (st e).args.size (ts e) (l e).loop-left.end (l e).loop-left.fits (t e) (rest e) (here e) in
     let end : (t e).end ≡ e.get_record-token.result.end = ap (λ (n : CodeToken). n.end) (sym e.get_record-token.ensures) in
     let fits : ((l e).loop-left.fits && goes_on (st e).args.size (l e).loop-left.end (t e)) ≡ ((l e).loop-left.fits && c.goes_on-fits.result) = ap (λ (b : Bool). (l e).loop-left.fits && b) (sym (goes c)) in
-    (omega arith, subst (λ (x : ℕ × Bool). Reached (st e).args.size (ts e) x.0 x.1 (tokens_in end_bytes ((l e).loop-left.false - 1) x.0 (drop ((l e).loop-left.at + record_bytes end_bytes) (file e)))) (λ i. (end i, fits i)) r)
+    (omega arith, subst (λ (x : ℕ × Bool). Reached (st e).args.size (ts e) x.0 x.1 (tokens_in end_bytes ((l e).loop-left.left - 1) x.0 (drop ((l e).loop-left.at + record_bytes end_bytes) (file e)))) (λ i. (end i, fits i)) r)
 
 returns : tie.Need-returns invariant-loop-left decreases-loop-left
 returns c =
     let l = c.before.before in
     let a = l.before.before.args in
     let ts = tokens_in end_bytes a.records 0 (drop a.from a.file.now) in
-    let z : l.loop-left.false ≡ 0 = omega arith in
+    let z : l.loop-left.left ≡ 0 = omega arith in
     let none = subst (Reached a.size ts l.loop-left.end l.loop-left.fits) (ap (λ (k : ℕ). tokens_in end_bytes k l.loop-left.end (drop l.loop-left.at a.file.now)) z ∙ records_none end_bytes l.loop-left.end (drop l.loop-left.at a.file.now)) l.loop-left.invariant.1 in
     c.is_accepted.ensures ∙ sym (reached_all a.size ts l.loop-left.end l.loop-left.fits none a.flag)
 

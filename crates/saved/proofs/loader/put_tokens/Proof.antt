@@ -39,7 +39,7 @@ loop-left-preserved c =
       omega (arith, e.0, v.0),
       omega (arith, v.1),
       ap length is ∙ length-sets l.list l.to (pack_token (token_of_record end_bytes l.end (drop l.at file))) ∙ v.2,
-      ap (λ (k : ℕ). sets p.put_token-to.new.0 p.put_token-to.result (tokens_left file (l.at + record_bytes end_bytes) (l.left - 1) k)) end ∙ token_put file l.at l.left l.end l.list _ l.to _ (omega arith) is e.0 ∙ v.3,
+      ap (λ (k : ℕ). sets p.put_token-to.new.list p.put_token-to.result (tokens_left file (l.at + record_bytes end_bytes) (l.left - 1) k)) end ∙ token_put file l.at l.left l.end l.list _ l.to _ (omega arith) is e.0 ∙ v.3,
     )
 
 returns : tie.Need-returns invariant-loop-left decreases-loop-left

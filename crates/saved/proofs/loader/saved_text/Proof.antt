@@ -22,17 +22,17 @@ returns-then-answer-ne0 c =
 done : (c : tie.Else-answer-ne0) → (opening c.before.before.before.before.args.file.now).number ≡ Done
 done c = sym (ap (λ (v : Verdict). v.number) c.before.before.saved_text_answer-answer.ensures) ∙ c.if-answer-ne0.false
 
-value : (c : tie.Else-answer-ne0) → c.before.before.saved_text_answer-answer.result-1.value ≡ offset_in c.before.before.before.before.args.file.now
+value : (c : tie.Else-answer-ne0) → c.before.before.saved_text_answer-answer.result.value ≡ offset_in c.before.before.before.before.args.file.now
 value c = ap (λ (v : Verdict). v.value) c.before.before.saved_text_answer-answer.ensures ∙ (text-inside c.before.before.before.before.args.file.now (done c)).0
 
-part-result-end-2 : tie.Need-slice-bounds-result-end-2
+part-result-end-2 : tie.Need-slice_bounds-result-end-2
 part-result-end-2 c = omega (arith, value c, (text-inside c.before.before.before.before.args.file.now (done c)).1)
 
 returns : tie.Need-returns
 returns c =
     let e = c.before in
     let f = e.before.before.before.before.args.file.now in
-    let n : e.before.before.saved_text_answer-answer.result-1.value - 0 ≡ offset_in f = omega (arith, value e) in
+    let n : e.before.before.saved_text_answer-answer.result.value - 0 ≡ offset_in f = omega (arith, value e) in
     ap (λ (k : ℕ). take k f) n ∙ sym (ap (λ (p : Part). p.bytes) (text_done f (opened f (done e))))
 
 pub saved_text_spec : {M : Type 1} → statement M

@@ -71,7 +71,7 @@ module _ (c : tie.Else-not-is_readable) where
   offset : e₃.before.before.get_u32-size.result ≡ offset_in e₂.before.before.before.before.args.file.now
   offset = e₃.before.before.get_u32-size.ensures
 
-part-valid-length-end : tie.Need-slice-bounds-valid-length-end
+part-valid-length-end : tie.Need-slice_bounds-valid_length-end
 part-valid-length-end c = omega (arith, inside c, offset c)
 
 -- the bytes that are tested are the text

@@ -36,7 +36,7 @@ module _ (c : tie.After-copy_front) where
   fits : length text + room list * record_bytes end_bytes + trailer_bytes ≤ length file
   fits = st.requires.3
 
-  copied : length c.copy_front.new.1.0 ≡ length file
+  copied : length c.copy_front.new.copy ≡ length file
   copied = ap length c.copy_front.ensures ∙ length_front text file (omega (arith, fits))
 
 put_records-at-requires : tie.Need-put_records-at-requires
@@ -45,11 +45,11 @@ put_records-at-requires c κs =
     (omega (arith, tokens t), omega (arith, tokens t, fits t, copied t))
 
 -- the records put after it
-stored : (c : tie.After-put_records-at) → length c.put_records-at.new.1.1.0 ≡ length (file c.before.before.before.before)
+stored : (c : tie.After-put_records-at) → length c.put_records-at.new.file ≡ length (file c.before.before.before.before)
 stored c =
     let t = c.before.before.before.before in
     ap length c.put_records-at.ensures.1
-    ∙ length-sets t.copy_front.new.1.0 (length (text t)) (records_of end_bytes (unpack (length (list t) / t.before.before.token_bytes.result) (list t))) ∙ copied t
+    ∙ length-sets t.copy_front.new.copy (length (text t)) (records_of end_bytes (unpack (length (list t) / t.before.before.token_bytes.result) (list t))) ∙ copied t
 
 put_trailer-requires : tie.Need-put_trailer-requires
 put_trailer-requires c κs =
@@ -67,7 +67,7 @@ returns c =
     let trailer : List ℕ = trailer_of (length (text t)) n (st t).args.flag in
     let m = length-records end_bytes (λ k. refl) (unpack n (list t)) in
     let k = length-unpack n (list t) in
-    put_both t.copy_front.new.1.0 _ _ records trailer (length (text t)) _ r.put_records-at.ensures.1 (omega (arith, r.put_records-at.ensures.0, m, k)) p.put_trailer.ensures.1
+    put_both t.copy_front.new.copy _ _ records trailer (length (text t)) _ r.put_records-at.ensures.1 (omega (arith, r.put_records-at.ensures.0, m, k)) p.put_trailer.ensures.1
     ∙ ap (λ (f : List ℕ). sets f (length (text t)) (records ++ trailer)) t.copy_front.ensures
     ∙ file_filled (text t) (records ++ trailer) (file t) (omega (arith, length-append records trailer, m, k, tokens t, fits t))
     ∙ (λ i. filled (text t ++ (records_of end_bytes (unpack (tokens t i) (list t)) ++ trailer_of (length (text t)) ((tokens t ∙ sym (length-unpack (room (list t)) (list t))) i) (st t).args.flag)) (file t))

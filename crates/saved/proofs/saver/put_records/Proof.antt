@@ -36,7 +36,7 @@ loop-left-preserved c =
       omega (arith, e.0, v.0),
       omega (arith, n, v.1),
       ap length is ∙ length-sets l.file l.to (record_of end_bytes (token_in list l.at)) ∙ v.2,
-      ap (λ (k : ℕ). sets p.put_record-to.new.0 p.put_record-to.result (records_left list (l.at + k) (l.left - 1))) n ∙ record_put list l.at l.left l.file _ l.to _ (omega arith) is e.0 ∙ v.3,
+      ap (λ (k : ℕ). sets p.put_record-to.new.file p.put_record-to.result (records_left list (l.at + k) (l.left - 1))) n ∙ record_put list l.at l.left l.file _ l.to _ (omega arith) is e.0 ∙ v.3,
     )
 
 returns : tie.Need-returns invariant-loop-left decreases-loop-left
