@@ -1,5 +1,5 @@
 //! Finds the oracle's files below ORACLE_SRC, and links the archives of the library: those in the folder GIEHTAMUN_ARCHIVES, which are
-//! for this machine, or, where the machine is x86-64, those that rt writes. On another machine without that folder it links none.
+//! for this machine, or, where the machine is x86-64, those of tools/archive. On another machine without that folder it links none.
 use std::env::var;
 use std::path::Path;
 
@@ -22,8 +22,8 @@ fn main() {
         println!("cargo::rustc-cfg=oracle");
     }
     std::fs::write(format!("{}/oracle.rs", var("OUT_DIR").unwrap()), text).unwrap();
-    let of_rt = (var("CARGO_CFG_TARGET_ARCH").unwrap() == "x86_64").then(|| format!("{root}/target/staticlib"));
-    if let Some(archives) = var("GIEHTAMUN_ARCHIVES").ok().or(of_rt) {
+    let made = (var("CARGO_CFG_TARGET_ARCH").unwrap() == "x86_64").then(|| format!("{root}/target/staticlib"));
+    if let Some(archives) = var("GIEHTAMUN_ARCHIVES").ok().or(made) {
         println!("cargo::rerun-if-changed={archives}");
         println!("cargo::rustc-link-search=native={archives}");
         println!("cargo::rustc-link-lib=static=probe");

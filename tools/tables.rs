@@ -16,7 +16,7 @@ fn bounds(class: fn(char) -> bool) -> String {
 fn main() {
     let (major, minor, update) = char::UNICODE_VERSION;
     println!("version {major}.{minor}.{update}");
-    println!("whiteSpace{}", bounds(char::is_whitespace));
+    println!("white_space{}", bounds(char::is_whitespace));
     println!("alphabetic{}", bounds(char::is_alphabetic));
     println!("numeric{}", bounds(char::is_numeric));
 }

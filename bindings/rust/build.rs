@@ -5,8 +5,12 @@ use std::process::{Command, Stdio};
 
 fn built() -> PathBuf {
     let root = Path::new(&var_os("CARGO_MANIFEST_DIR").unwrap()).join("../..");
-    for sources in ["crates", "crates.txt", "tools/archive", "tools/native"] {
-        println!("cargo::rerun-if-changed={}", root.join(sources).display());
+    // Of a crate's folder all but out/, into which the proof writes.
+    let parts = |folder: PathBuf| ["src", "specs", "proofs"].map(|part| folder.join(part));
+    let crates = root.join("crates").read_dir().expect("the crates of the repository, or GIEHTAMUN_ARCHIVE");
+    let sources = crates.flat_map(|entry| parts(entry.unwrap().path())).filter(|part| part.exists());
+    for source in sources.chain(["crates.txt", "tools/archive"].map(|file| root.join(file))) {
+        println!("cargo::rerun-if-changed={}", source.display());
     }
     let mut command = Command::new(root.join("tools/archive"));
     let out = command.stderr(Stdio::inherit()).output().expect("tools/archive of the repository, or GIEHTAMUN_ARCHIVE");

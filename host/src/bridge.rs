@@ -1,27 +1,18 @@
-//! The library in a program of its own (host/bridge): rt's own archive, which is x86-64 code, or its LLVM module compiled for Arm.
+//! The library in a program of its own (host/bridge): the archive that hosts link, which is x86-64 code, or the one for Arm.
 use crate::{Answer, Call};
 use std::env::{consts::ARCH, var};
 use std::io::Write;
-use std::path::Path;
 use std::process::{Command, Stdio};
 
-/// The program for the machine that GIEHTAMUN_BRIDGE names, or for x86-64. For x86-64 it runs under the kit's loader and, where this machine is
-/// another, the kit's emulator. For Arm it needs no loader, and the emulator is Debian's.
+/// The program for the machine that GIEHTAMUN_BRIDGE names, or for x86-64; where this machine is another, in Debian's emulator.
 fn program() -> Command {
     let machine = var("GIEHTAMUN_BRIDGE").unwrap_or("x86_64".into());
-    let mut words = vec![];
-    if machine == "x86_64" {
-        let home = var("RATTLE_HOME").expect("RATTLE_HOME: the folder of the Rattle kit, which ./test sets");
-        let tools = format!("{home}/on/{ARCH}/toolchain");
-        let emulator = format!("{tools}/bin/qemu-x86_64");
-        words.extend(Path::new(&emulator).exists().then_some(emulator));
-        words.extend([format!("{tools}/lib/ld-linux-x86-64.so.2"), "--library-path".into(), format!("{tools}/lib")]);
-    } else {
-        words.push(format!("qemu-{machine}"));
+    let bridge = format!("{}/../target/bridge/{machine}", env!("CARGO_MANIFEST_DIR"));
+    if machine == ARCH {
+        return Command::new(bridge);
     }
-    words.push(format!("{}/../target/bridge/{machine}", env!("CARGO_MANIFEST_DIR")));
-    let mut command = Command::new(&words[0]);
-    command.args(&words[1..]);
+    let mut command = Command::new(format!("qemu-{machine}"));
+    command.arg(bridge);
     command
 }
 

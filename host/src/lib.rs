@@ -121,7 +121,7 @@ pub fn ask(calls: &[Call]) -> Vec<Answer> {
 
 #[cfg(not(linked))]
 pub fn ask(_: &[Call]) -> Vec<Answer> {
-    panic!("no archives for this machine: GIEHTAMUN_ARCHIVES, which ./test sets, names the folder of those that tools/native makes");
+    panic!("no archives for this machine: GIEHTAMUN_ARCHIVES names the folder of those that tools/native makes");
 }
 
 /// Asks, and holds each answer to what it should be; the number of calls.

@@ -1,5 +1,5 @@
-//! The library in the bridge against the linked one: the same answers, byte for byte. On x86-64 rt's own archive is linked, and the bridge has it
-//! too or, where GIEHTAMUN_BRIDGE is aarch64, its LLVM module compiled for Arm. On Arm that module is linked, and the bridge has rt's own archive.
+//! The library in the bridge against the linked one: the same answers, byte for byte. On x86-64 the archive that hosts link is linked, and the
+//! bridge has it too or, where GIEHTAMUN_BRIDGE is aarch64, the one for Arm.
 use host::{ask, bridge, compare, reading, saved, texts, Answer, Call, Op, Random, MAX_QUERY_SIZE, TOKEN_BYTES};
 
 /// Calls for a list with buffers of some lengths: none, a byte short, just enough, and a token for each byte of the text.

@@ -1,4 +1,4 @@
-// The library as C functions. An answer is one number of 64 bits: see specs/Packed.antt.
+// The library as functions with packed answers, which giehtamun_c exports to C. An answer is one number of 64 bits: see specs/Packed.antt.
 #![tactic(auto)]
 
 ghost use Rattle.std.specs.Prelude.{◌≡◌};
@@ -40,20 +40,13 @@ fn pack_halves(number: u32, first: usize, second: usize) -> u64
     (number as u64) * 0x100_0000_0000_0000 + (first as u64) * 0x1000_0000 + (second as u64)
 }
 
-#[unsafe(no_mangle)]
-pub extern "C" fn giehtamun_list(text: &[u8], mode: u32, list: &mut [u8]) -> u64
+pub fn giehtamun_list(text: &[u8], mode: u32, list: &mut [u8]) -> u64
     ensures { packed_written result list.new (listing mode text.now list.old) }
 {
     pack_answer(tokenize(Settings::new().set_mode(mode), text, list))
 }
 
-#[unsafe(no_mangle)]
-pub extern "C" fn giehtamun_list_up_to(
-    text: &[u8],
-    mode: u32,
-    position: usize,
-    list: &mut [u8],
-) -> u64
+pub fn giehtamun_list_up_to(text: &[u8], mode: u32, position: usize, list: &mut [u8]) -> u64
     ensures { packed_written result list.new (listing_up_to mode position text.now list.old) }
 {
     pack_answer(tokenize_up_to_position(
@@ -63,83 +56,67 @@ pub extern "C" fn giehtamun_list_up_to(
     ))
 }
 
-#[unsafe(no_mangle)]
-pub extern "C" fn giehtamun_step(text: &[u8], cursor: usize) -> u64
+pub fn giehtamun_step(text: &[u8], cursor: usize) -> u64
     ensures { result ≡ packed_step (step_at text.now cursor) }
 {
     let s = step(text, cursor);
     pack(s.number, s.token.kind, s.value)
 }
 
-#[unsafe(no_mangle)]
-pub extern "C" fn giehtamun_mask(text: &[u8], copy: &mut [u8]) -> u64
+pub fn giehtamun_mask(text: &[u8], copy: &mut [u8]) -> u64
     ensures { packed_written result copy.new (masked_copy text.now copy.old) }
 {
     pack_answer(mask(text, copy))
 }
 
-#[unsafe(no_mangle)]
-pub extern "C" fn giehtamun_token_text(text: &[u8], start: usize, end: usize) -> u64
+pub fn giehtamun_token_text(text: &[u8], start: usize, end: usize) -> u64
     ensures { result ≡ packed_part (token_text text.now start end) }
 {
     pack_answer(token_text_answer(text, start, end))
 }
 
-#[unsafe(no_mangle)]
-pub extern "C" fn giehtamun_shown_text(
-    text: &[u8],
-    copy: &[u8],
-    kind: u32,
-    start: usize,
-    end: usize,
-) -> u64
+pub fn giehtamun_shown_text(text: &[u8], copy: &[u8], kind: u32, start: usize, end: usize) -> u64
     ensures { result ≡ packed_part (shown_text text.now copy.now kind start end) }
 {
     pack_answer(shown_text_answer(text, copy, kind, start, end))
 }
 
-#[unsafe(no_mangle)]
-pub extern "C" fn giehtamun_place(text: &[u8], offset: usize) -> u64
+pub fn giehtamun_place(text: &[u8], offset: usize) -> u64
     ensures { result ≡ packed_place (place_at text.now offset) }
 {
     let p = place(text, offset);
     pack_halves(p.number, p.line, p.column)
 }
 
-#[unsafe(no_mangle)]
-pub extern "C" fn giehtamun_first_statement(text: &[u8]) -> u64
+pub fn giehtamun_first_statement(text: &[u8]) -> u64
     ensures { result ≡ packed_first (first_statement text.now) }
 {
     let f = first_statement(text);
     pack_halves(f.number, f.tokens, f.end)
 }
 
-#[unsafe(no_mangle)]
-pub extern "C" fn giehtamun_statement_text(text: &[u8]) -> u64
+pub fn giehtamun_statement_text(text: &[u8]) -> u64
     ensures { result ≡ packed_text (first_statement text.now) }
 {
     let f = first_statement(text);
     pack(f.number, 0, f.bytes)
 }
 
-#[unsafe(no_mangle)]
-pub extern "C" fn giehtamun_save(text: &[u8], list: &[u8], flag: u32, file: &mut [u8]) -> u64
+pub fn giehtamun_save(text: &[u8], list: &[u8], flag: u32, file: &mut [u8]) -> u64
     ensures { packed_written result file.new (saving text.now list.now flag file.old) }
 {
     let saved = save(text, list, flag, file);
     pack(saved.number, 0, saved.value)
 }
 
-#[unsafe(no_mangle)]
-pub extern "C" fn giehtamun_load(file: &[u8], list: &mut [u8]) -> u64
+pub fn giehtamun_load(file: &[u8], list: &mut [u8]) -> u64
     ensures { packed_loaded result list.new (loading file.now list.old) }
 {
     let loaded = load(file, list);
     pack(loaded.number, loaded.flag, loaded.value)
 }
 
-#[unsafe(no_mangle)]
-pub extern "C" fn giehtamun_saved_text(file: &[u8]) -> u64
+pub fn giehtamun_saved_text(file: &[u8]) -> u64
     ensures { result ≡ packed_part (saved_text file.now) }
 {
     let text = saved_text_answer(file);
