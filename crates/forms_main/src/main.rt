@@ -67,13 +67,13 @@ fn compare_reader(rt: &impl Print, text: &[u8]) -> io::Result<usize>
     let read = read_all(text, &mut own);
     let number = answer.number();
     let value = answer.value();
-    print!(rt; "{number} {value}, reader {} {}, ", read.number(), read.value())?;
+    let own_number = read.number();
+    let own_value = read.value();
+    print!(rt; "{number} {value}, reader {own_number} {own_value}, ")?;
     if (number == 1) | (number == 2) {
         return Ok(0);
     }
-    Ok(one_unless(
-        (number == read.number()) & (value == read.value()) & same(&list, &own),
-    ))
+    Ok(one_unless((number == own_number) & (value == own_value) & same(&list, &own)))
 }
 
 fn compare(rt: &impl Print, text: &[u8]) -> io::Result<()> {
@@ -105,8 +105,14 @@ fn main(rt: HostRuntime) -> io::Result<()> {
     compare(&rt, b"a /*c*/ b")?;
     compare(&rt, b"SELECT 'a''b', $a$b$a$ -- end\n")?;
     // 64 tokens, and one more than there is room for.
-    compare(&rt, b"a b c d e f g h i j k l m n o p q r s t u v w x y z a b c d e f ")?;
-    compare(&rt, b"a b c d e f g h i j k l m n o p q r s t u v w x y z a b c d e f g")?;
+    compare(
+        &rt,
+        b"a b c d e f g h i j k l m n o p q r s t u v w x y z a b c d e f ",
+    )?;
+    compare(
+        &rt,
+        b"a b c d e f g h i j k l m n o p q r s t u v w x y z a b c d e f g",
+    )?;
     compare(&rt, b"a\xC0\x80")?;
     compare(&rt, &tags())
 }
