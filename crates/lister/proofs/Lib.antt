@@ -1,3 +1,2 @@
--- The list's room, and a text that is read in parts.
+-- The list's room.
 pub mod Fits
-pub mod Reading

@@ -6,11 +6,12 @@ ghost use Rattle.rules.specs.Limits.{token_bytes};
 ghost use Rattle.lister.specs.Input.{count_of};
 
 use lexer::token::Token;
-use libc::{STDERR_FILENO, STDIN_FILENO, STDOUT_FILENO};
 use lists::listing::{Settings, tokenize};
 use lists::packed::get_token;
 use rules::answer::Answer;
 use rules::{TOKEN_BYTES, token_bytes};
+use std::io;
+use std::io::Read;
 
 const MOST_BYTES: usize = 65536;
 
@@ -38,23 +39,22 @@ enum Input {
     Failed,
 }
 
-fn read_some(part: &mut [u8]) -> Input
+fn read_some(input: &mut impl Read, part: &mut [u8]) -> Input
     ensures { count_of result ≤ length part.new }
 {
-    let got = libc::read(STDIN_FILENO, part);
-    if got < 0 {
-        return Input::Failed;
+    match input.read(part) {
+        Ok(n) => Input::Bytes(n),
+        Err(_) => Input::Failed,
     }
-    Input::Bytes(io::count(got, part))
 }
 
 // Reads until the text is full or the input ends: a pipe gives its bytes in pieces.
-fn read_text(text: &mut [u8]) -> Input
+fn read_text(input: &mut impl Read, text: &mut [u8]) -> Input
     ensures { count_of result ≤ length text.new }
 {
     let mut n = 0;
     while n < text.len() {
-        let some = read_some(&mut text[n..]);
+        let some = read_some(input, &mut text[n..]);
         let Input::Bytes(more) = some else {
             return Input::Failed;
         };
@@ -66,61 +66,48 @@ fn read_text(text: &mut [u8]) -> Input
     Input::Bytes(n)
 }
 
-fn print_number(n: u64, after: u8) {
-    io::print_decimal(STDOUT_FILENO, n);
-    io::write_all(STDOUT_FILENO, &[after]);
+fn print_token(rt: &impl Print, token: Token) -> io::Result<()> {
+    println!(rt; "{} {} {}", token.kind, token.start, token.end)
 }
 
-fn print_token(token: Token) {
-    print_number(token.kind as u64, b' ');
-    print_number(token.start as u64, b' ');
-    print_number(token.end as u64, b'\n');
-}
-
-fn print_tokens(list: &[u8], tokens: usize)
+fn print_tokens(rt: &impl Print, list: &[u8], tokens: usize) -> io::Result<()>
     requires { tokens * token_bytes ≤ length list.now }
 {
     let mut at = 0;
     for _ in 0..tokens {
-        print_token(get_token(list, at));
+        print_token(rt, get_token(list, at))?;
         at += token_bytes();
     }
+    Ok(())
 }
 
-fn print_end(tokens: usize, bytes: usize) {
-    io::write_all(STDOUT_FILENO, b"end ");
-    print_number(tokens as u64, b' ');
-    print_number(bytes as u64, b'\n');
+fn print_end(rt: &impl Print, tokens: usize, bytes: usize) -> io::Result<()> {
+    println!(rt; "end {tokens} {bytes}")
 }
 
-fn print_refusal(answer: Answer) {
-    io::write_all(STDOUT_FILENO, b"refused ");
-    print_number(answer.number() as u64, b' ');
-    print_number(answer.value() as u64, b'\n');
+fn print_refusal(rt: &impl Print, answer: Answer) -> io::Result<()> {
+    println!(rt; "refused {} {}", answer.number(), answer.value())
 }
 
-fn print_list(text: &[u8]) {
+fn print_list(rt: &impl Print, text: &[u8]) -> io::Result<()> {
     let mut list = list_space();
     let answer = tokenize(Settings::new(), text, &mut list);
     if answer.number() != 0 {
-        print_refusal(answer);
-        return;
+        return print_refusal(rt, answer);
     }
     let tokens = answer.value();
-    print_tokens(&list, tokens);
-    print_end(tokens, text.len());
+    print_tokens(rt, &list, tokens)?;
+    print_end(rt, tokens, text.len())
 }
 
-fn main() {
+fn main(rt: HostRuntime) -> io::Result<()> {
     let mut text = text_space();
-    let input = read_text(&mut text);
+    let input = read_text(&mut rt.stdin(), &mut text);
     let Input::Bytes(n) = input else {
-        io::write_all(STDERR_FILENO, b"lister: standard input can't be read\n");
-        return;
+        return rt.eprintln("lister: standard input can't be read");
     };
     if n > MOST_BYTES {
-        print_refusal(Answer::TooLong(0));
-        return;
+        return print_refusal(&rt, Answer::TooLong(0));
     }
-    print_list(&text[..n]);
+    print_list(&rt, &text[..n])
 }

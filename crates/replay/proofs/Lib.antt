@@ -1,3 +1,2 @@
--- What a listing of number 0 holds, and the parts of a case.
+-- What a listing of number 0 holds.
 pub mod Listed
-pub mod Parts

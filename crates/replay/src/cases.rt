@@ -31,11 +31,7 @@ fn cut() -> Case
 fn begins(s: &[u8], list: &[u8]) -> bool
     ensures { result ≡ true → take (length list.now) s.now ≡ list.now }
 {
-    let n = list.len();
-    if s.len() < n {
-        return false;
-    }
-    check::same(&s[..n], list)
+    s.starts_with(list)
 }
 
 // No text of the file has over 250 bytes, and so not over 250 tokens.

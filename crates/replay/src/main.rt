@@ -5,10 +5,13 @@
 
 mod cases;
 
-ghost use Rattle.std.specs.Prelude.{◌≡◌, length};
+ghost use Rattle.std.specs.Prelude.{◌≡◌, ◌≤◌, length, IfSome};
 
 use cases::read_case;
-use libc::STDOUT_FILENO;
+use std::fs::File;
+use std::io;
+use std::io::Read;
+use std::rt::Files;
 
 // More than the file has, so that its end is seen.
 fn space() -> [u8; 524288]
@@ -17,28 +20,24 @@ fn space() -> [u8; 524288]
     [0; 524288]
 }
 
-fn print_count(n: usize, unit: &[u8]) {
-    io::print_decimal(STDOUT_FILENO, n as u64);
-    io::write_all(STDOUT_FILENO, unit);
+fn print_damaged(rt: &impl Print, texts: usize) -> io::Result<()> {
+    println!(rt; "damaged after case {texts}")
 }
 
-fn print_damaged(texts: usize) {
-    io::write_all(STDOUT_FILENO, b"damaged after case ");
-    print_count(texts, b"\n");
+fn print_difference(rt: &impl Print, text: usize) -> io::Result<()> {
+    println!(rt; "case {text} differs")
 }
 
-fn print_difference(text: usize) {
-    io::write_all(STDOUT_FILENO, b"case ");
-    print_count(text, b" differs\n");
+fn print_result(
+    rt: &impl Print,
+    texts: usize,
+    tokens: usize,
+    differences: usize,
+) -> io::Result<()> {
+    println!(rt; "{texts} texts, {tokens} tokens, {differences} differences")
 }
 
-fn print_result(texts: usize, tokens: usize, differences: usize) {
-    print_count(texts, b" texts, ");
-    print_count(tokens, b" tokens, ");
-    print_count(differences, b" differences\n");
-}
-
-fn replay(file: &[u8]) {
+fn replay(rt: &impl Print, file: &[u8]) -> io::Result<()> {
     let mut at = 0;
     let mut texts = 0;
     let mut tokens = 0;
@@ -46,8 +45,7 @@ fn replay(file: &[u8]) {
     while at < file.len() {
         let case = read_case(&file[at..]);
         if case.size == 0 {
-            print_damaged(texts);
-            return;
+            return print_damaged(rt, texts);
         }
         at += case.size;
         texts += 1;
@@ -55,26 +53,47 @@ fn replay(file: &[u8]) {
         if !case.agrees {
             differences += 1;
             if differences <= 10 {
-                print_difference(texts);
+                print_difference(rt, texts)?;
             }
         }
     }
-    print_result(texts, tokens, differences);
+    print_result(rt, texts, tokens, differences)
 }
 
-// Not so where a read failed, or where the file has more than the space.
-fn at_end(fd: i32) -> bool {
-    let mut more = [0u8; 1];
-    libc::read(fd, &mut more) == 0
-}
-
-fn main() {
-    let mut file = space();
-    let fd = os::open_read(b"answers");
-    let n = io::read_full(fd, &mut file);
-    if at_end(fd) {
-        replay(&file[..n]);
-    } else {
-        print_damaged(0);
+// Reads until the space is full or the input ends, and answers how many bytes came. It answers nothing where a read fails.
+fn read_full(input: &mut impl Read, space: &mut [u8]) -> Option<usize>
+    ensures { IfSome result (λ n. n ≤ length space.new) }
+{
+    let mut n = 0;
+    while n < space.len() {
+        let more = input.read(&mut space[n..]).ok()?;
+        if more == 0 {
+            break;
+        }
+        n += more;
     }
+    Some(n)
+}
+
+// Not so where a read fails, or where the file has more than the space.
+fn at_end(input: &mut impl Read) -> bool {
+    let mut more = [0u8; 1];
+    matches!(input.read(&mut more), Ok(0))
+}
+
+// How many bytes of the space the file has. It answers nothing where the file can't be opened, a read fails or there is more.
+fn read_file(rt: &impl Files, space: &mut [u8]) -> Option<usize>
+    ensures { IfSome result (λ n. n ≤ length space.new) }
+{
+    let mut file = File::open(rt, "answers").ok()?;
+    let n = read_full(&mut file, space)?;
+    if at_end(&mut file) { Some(n) } else { None }
+}
+
+fn main(rt: HostRuntime) -> io::Result<()> {
+    let mut file = space();
+    let Some(n) = read_file(&rt, &mut file) else {
+        return print_damaged(&rt, 0);
+    };
+    replay(&rt, &file[..n])
 }
