@@ -2,10 +2,12 @@
 --     over i ts out    out, with the first i of ts over its first i: what a loop that stores ts has made of out after i turns
 -- Assumes nothing.
 use mathlib.Core.Path.{◌≡◌, refl, sym, ◌∙◌, ap, subst}
-use Prim.Native.Nat.{ℕ, zero, suc, ◌<◌, ◌≤◌}
+use Prim.Native.Nat.{ℕ, zero, suc, ◌+◌, ◌<◌, ◌≤◌}
 use native.Mathlib.Nat.{not-suc-le-zero, le_of_suc-le-suc}
 use native.Mathlib.Omega.{arith}
-use mathlib.Core.Bool.{Bool, true, false, cond}
+use native.Mathlib.Numerals.{add-one}
+use native.Mathlib.Decide.{dec_lt}
+use mathlib.Core.Bool.{Bool, true, false, cond, true≢false}
 use mathlib.Core.List.{List, [], ◌∷◌, ◌++◌}
 use lib.ListN.{length, get_or, set, drop, length-drop}
 use Rattle.rules.specs.Tokens.{Token as Tok}
@@ -63,6 +65,18 @@ records-length : (ts : List Tok) → length (records_of ts) ≡ length ts
 records-length [] = refl
 records-length (t ∷ ts) = ap suc (records-length ts)
 
+-- after i turns from what `begin` gave
+pub record Reached (s : List ℕ) (begun : Picking) (i : ℕ) (at : Picking) (lone : List ℕ) : Type 0 where
+  pub same_plan : at.plan ≡ begun.plan
+  pub here : records_from begun.plan s at.cursor ≡ drop i (records_from begun.plan s 0)
+  pub ready : Ready s at lone
+
+-- after i turns the first i records of the list stand in the slice
+pub record Stood (s : List ℕ) (begun : Picking) (ys : List Token) (i : ℕ) (at : Picking) (lone : List ℕ) (list : List Token) : Type 0 where
+  pub reached : Reached s begun i at lone
+  pub within : i ≤ length (records_from begun.plan s 0)
+  pub holds : list ≡ over i (records_from begun.plan s 0) ys
+
 -- what `begin` gave, of a list that fits the slice
 module _ (plan : Plan) (s : List ℕ) (ys : List Token) (begun : Picking) (fits : Fits begun.plan s (outcome (plan_of plan s) (length ys)) (length ys)) where
   abbrev pub all : List Token
@@ -74,31 +88,25 @@ module _ (plan : Plan) (s : List ℕ) (ys : List Token) (begun : Picking) (fits 
   all_length : length all ≡ length is.tokens
   all_length = ap length fits.tokens ∙ records-length is.tokens
 
-  pub has_room : length all ≤ length ys
+  has_room : length all ≤ length ys
   has_room = omega (arith, all_length, fits.enough)
 
-  -- after i turns
-  pub record Reached (i : ℕ) (at : Picking) (lone : List ℕ) : Type 0 where
-    pub same_plan : at.plan ≡ begun.plan
-    pub here : records_from begun.plan s at.cursor ≡ drop i all
-    pub ready : Ready s at lone
-
-  pub reached_first : (lone : List ℕ) → begun.cursor ≡ 0 → Ready s begun lone → Reached 0 begun lone
+  reached_first : (lone : List ℕ) → begun.cursor ≡ 0 → Ready s begun lone → Reached s begun 0 begun lone
   reached_first lone c m = record { same_plan = refl; here = ap (records_from begun.plan s) c; ready = m }
 
   -- a turn
-  module _ (i : ℕ) (at : Picking) (lone : List ℕ) (h : Reached i at lone) (r : Picking) (lone' : List ℕ) (p : Picks s at r lone' (records_from at.plan s)) where
+  module _ (i : ℕ) (at : Picking) (lone : List ℕ) (h : Reached s begun i at lone) (r : Picking) (lone' : List ℕ) (p : Picks s at r lone' (records_from at.plan s)) where
     left : drop i all ≡ cond r.found (r.token ∷ records_from begun.plan s r.cursor) []
     left = sym h.here ∙ subst (λ (q : Plan). records_from q s at.cursor ≡ cond r.found (r.token ∷ records_from q s r.cursor) []) h.same_plan p.first
 
-    pub turn-found : i < length all → r.found ≡ true
+    turn-found : i < length all → r.found ≡ true
     turn-found l = go r.found left
       where
         go : (b : Bool) → drop i all ≡ cond b (r.token ∷ records_from begun.plan s r.cursor) [] → b ≡ true
         go true e = refl
         go false e = absurd (omega (arith, ap length e, length-drop i all))
 
-    pub turn_none : length all ≤ i → r.found ≡ false
+    turn_none : length all ≤ i → r.found ≡ false
     turn_none l = go r.found left
       where
         go : (b : Bool) → drop i all ≡ cond b (r.token ∷ records_from begun.plan s r.cursor) [] → b ≡ false
@@ -108,17 +116,17 @@ module _ (plan : Plan) (s : List ℕ) (ys : List Token) (begun : Picking) (fits 
     next : i < length all → drop i all ≡ r.token ∷ records_from begun.plan s r.cursor
     next l = left ∙ ap (λ (b : Bool). cond b (r.token ∷ records_from begun.plan s r.cursor) []) (turn-found l)
 
-    pub turn_plan : r.plan ≡ begun.plan
+    turn_plan : r.plan ≡ begun.plan
     turn_plan = p.plan ∙ h.same_plan
 
-    pub turn_reached : i < length all → Reached (suc i) r lone'
+    turn_reached : i < length all → Reached s begun (suc i) r lone'
     turn_reached l = record { same_plan = turn_plan; here = sym (drop_next i all r.token (records_from begun.plan s r.cursor) (next l)); ready = p.ready }
 
-    pub turn-set : i < length all → set (over i all ys) i r.token ≡ over (suc i) all ys
+    turn-set : i < length all → set (over i all ys) i r.token ≡ over (suc i) all ys
     turn-set l = over_set i all ys r.token (records_from begun.plan s r.cursor) (next l)
 
   -- when the turns are done, the slice is what the plan gives
-  pub stored_done : recorded (answer_by begun.plan (length all)) (over (length all) all ys) ≡ records_by (plan_of plan s) ys
+  stored_done : recorded (answer_by begun.plan (length all)) (over (length all) all ys) ≡ records_by (plan_of plan s) ys
   stored_done =
       let n = ap (answer_by begun.plan) all_length in
       let a = fits.answer in
@@ -126,3 +134,38 @@ module _ (plan : Plan) (s : List ℕ) (ys : List Token) (begun : Picking) (fits 
     where
       content : over (length all) all ys ≡ records_of is.tokens ++ drop (length is.tokens) ys
       content = over_all all ys has_room ∙ ap (λ (ts : List Token). ts ++ drop (length all) ys) fits.tokens ∙ ap (λ (k : ℕ). records_of is.tokens ++ drop k ys) all_length
+
+  pub stood_first : (lone : List ℕ) → begun.cursor ≡ 0 → Ready s begun lone → Stood s begun ys 0 begun lone ys
+  stood_first lone c m = record { reached = reached_first lone c m; within = omega arith; holds = sym (over_none all ys) }
+
+  module _ (i : ℕ) (at : Picking) (lone : List ℕ) (list : List Token) (h : Stood s begun ys i at lone list) (r : Picking) (lone' : List ℕ) (p : Picks s at r lone' (records_from at.plan s)) where
+    -- what was found is one more of them, and there is room for it
+    pub more : r.found ≡ true → i < length all
+    more e = go (dec_lt i (length all))
+      where
+        go : Dec (i < length all) → i < length all
+        go (yes l) = l
+        go (no l) = absurd (true≢false (sym e ∙ turn_none i at lone h.reached r lone' p (omega arith)))
+
+    pub room : r.found ≡ true → i < length list
+    room e = omega (arith, more e, has_room, ap length h.holds, over_length i all ys)
+
+    pub stood_more : r.found ≡ true → Stood s begun ys (i + 1) r lone' (set list i r.token)
+    stood_more e =
+        subst (λ (n : ℕ). Stood s begun ys n r lone' (set list i r.token)) (sym (add-one i))
+        (record { reached = turn_reached i at lone h.reached r lone' p (more e); within = more e; holds = ap (λ (l : List Token). set l i r.token) h.holds ∙ turn-set i at lone h.reached r lone' p (more e) })
+
+    -- where none is found, all are stored
+    pub stood_done : r.found ≡ false → recorded (answer_by r.plan i) list ≡ records_by (plan_of plan s) ys
+    stood_done e =
+        ap (λ (q : Plan). recorded (answer_by q i) list) (turn_plan i at lone h.reached r lone' p)
+        ∙ ap (λ (l : List Token). recorded (answer_by begun.plan i) l) h.holds
+        ∙ ap (λ (n : ℕ). recorded (answer_by begun.plan n) (over n all ys)) last
+        ∙ stored_done
+      where
+        last : i ≡ length all
+        last = go (dec_lt i (length all))
+          where
+            go : Dec (i < length all) → i ≡ length all
+            go (yes l) = absurd (true≢false (sym (turn-found i at lone h.reached r lone' p l) ∙ e))
+            go (no l) = let w = h.within in omega arith
