@@ -19,7 +19,7 @@ module _ (c : tie.After-tokenize) where
   abbrev list : List ℕ
   list = c.before.before.before.before.before.before.args.list.now
 
-  listed : written c.tokenize.result c.tokenize.new.1.1.0 ≡ listing mode text list
+  listed : written c.tokenize.result c.tokenize.new.list ≡ listing mode text list
   listed = c.tokenize.ensures ∙ ap (λ (m : ℕ). listing m text list) c.before.before.set_mode.ensures.0
 
 pack_answer-requires : tie.Need-pack_answer-requires

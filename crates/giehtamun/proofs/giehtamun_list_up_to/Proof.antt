@@ -22,7 +22,7 @@ module _ (c : tie.After-tokenize_up_to_position) where
   abbrev list : List ℕ
   list = c.before.before.before.before.before.before.before.args.list.now
 
-  listed : written c.tokenize_up_to_position.result c.tokenize_up_to_position.new.1.1.0
+  listed : written c.tokenize_up_to_position.result c.tokenize_up_to_position.new.list
       ≡ listing_up_to mode position text list
   listed =
       let p = c.before.before.set_position.ensures in
