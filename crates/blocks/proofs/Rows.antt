@@ -1,8 +1,8 @@
 -- The marks of eight bytes are a row of bits. Assumes nothing.
 use Prim.Native.Nat.{ℕ, zero, suc, ◌+◌, ◌*◌, ◌^◌, ◌<◌}
 use native.Mathlib.Omega.{arith}
-use mathlib.Core.Path.{◌≡◌, refl, sym, ap, ap₂, ◌∙◌}
-use mathlib.Core.List.{List, [], ◌∷◌}
+use mathlib.Core.Path.{◌≡◌, sym, ap, ◌∙◌}
+use mathlib.Core.List.{List}
 use mathlib.Core.Bool.{Bool, true, false, not, cond}
 use lib.ListN.{get_or}
 use lib.Bits.{bit_xor, xor_comm, xor_shifted, xor_zero_r}
@@ -11,7 +11,7 @@ use Rattle.runs.specs.Lanes.{packed, others, marks}
 use Rattle.runs.proofs.Firsts.{lane, none}
 use Rattle.blocks.specs.Edges.{outside}
 use Rattle.blocks.proofs.Xors.{shl_linear}
-use Rattle.blocks.proofs.Spans.{each, span, lanes, span_each}
+use Rattle.blocks.proofs.Spans.{span, lanes, span_each}
 
 module _ (es : List ℕ) (a : Ascii es) (s : List ℕ) (fits : (k : ℕ) → get_or s k 0 < 256) where
   marked : (n i : ℕ) → marks false n es (packed n s i) ≡ span (lanes n) (outside es s) i

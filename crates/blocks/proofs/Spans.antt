@@ -1,12 +1,11 @@
 -- Numbers made of bits by exclusive or: what is linear is known by what it does to each bit. Assumes nothing.
 use Prim.Native.Nat.{ℕ, zero, suc, ◌+◌, ◌*◌, ◌/◌, ◌^◌, ◌<◌}
 use native.Mathlib.Omega.{arith}
-use native.Mathlib.Nat.{add-zero}
 use mathlib.Core.Path.{◌≡◌, refl, sym, ap, ap₂, ◌∙◌}
 use mathlib.Core.List.{List, [], ◌∷◌, ◌++◌}
 use mathlib.Core.Bool.{Bool, true, false, cond}
 use lib.ListN.{length}
-use lib.Bits.{bit_and, bit_xor, xor_comm, xor_shifted, xor_zero_r}
+use lib.Bits.{bit_and, bit_xor, xor_comm, xor_shifted}
 use Rattle.blocks.specs.Sets.{set}
 use Rattle.blocks.specs.Turns.{swap, turn}
 use Rattle.blocks.proofs.Xors.{xor_assoc, Linear, shr_linear, shl_linear, and_linear, xor_linear, then_linear, id_linear}

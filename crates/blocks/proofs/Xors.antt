@@ -5,7 +5,7 @@ use native.Mathlib.Nat.{add-zero, zero-mul}
 use mathlib.Core.Path.{◌≡◌, refl, sym, ap, ap₂, ◌∙◌}
 use mathlib.Core.Logic.{◌⊎◌, inl, inr}
 use lib.Arith.{bin_ind}
-use lib.Bits.{bit_and, bit_xor, differ, and_step, xor_step, xor_comm, xor_shr, xor_block, and_zero_l}
+use lib.Bits.{bit_and, bit_xor, differ, and_step, xor_step, xor_comm, xor_shr, xor_block}
 
 -- a digit is 0 or 1
 pub digit-cases : (x : ℕ) → x < 2 → (x ≡ 0) ⊎ (x ≡ 1)

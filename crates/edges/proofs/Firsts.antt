@@ -1,12 +1,11 @@
 -- The lowest bit of a set, and the set without it. Assumes nothing.
-use Prim.Native.Nat.{ℕ, zero, suc, ◌+◌, ◌-◌, ◌*◌, ◌/◌, ◌%◌, ◌^◌, ◌≤◌, ◌<◌}
+use Prim.Native.Nat.{ℕ, zero, suc, ◌+◌, ◌-◌, ◌*◌, ◌/◌, ◌%◌, ◌≤◌, ◌<◌}
 use native.Mathlib.Omega.{arith}
 use native.Mathlib.Nat.{add-zero}
-use mathlib.Core.Path.{◌≡◌, refl, sym, ap, ap₂, ◌∙◌, subst}
+use mathlib.Core.Path.{◌≡◌, refl, sym, ap, ◌∙◌, subst}
 use mathlib.Core.Bool.{Bool, true, false, cond}
 use lib.Count.{count_trailing_zeros, under}
 use lib.Bits.{bit_and, and_block, and_self}
-use Rattle.rules.proofs.Tests.{clash}
 use Rattle.blocks.specs.Sets.{set}
 use Rattle.blocks.proofs.Sets.{set_same, set_split}
 

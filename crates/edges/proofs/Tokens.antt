@@ -16,20 +16,20 @@ use Rattle.rules.specs.Classes.{in_ranges, white_space, digit}
 use Rattle.rules.specs.Tables.{white_space_table}
 use Rattle.rules.specs.Kinds.{NoToken, Whitespace, Number, BareWord, DollarSign}
 use Rattle.rules.specs.Lexeme.{two}
-use Rattle.rules.specs.Operators.{single, pair, spaceship}
+use Rattle.rules.specs.Operators.{pair, spaceship}
 use Rattle.rules.specs.Words.{starts_word, word_character}
 use Rattle.rules.specs.Dollars.{tag_byte}
 use Rattle.rules.specs.Tokens.{lexeme, after_dot_at}
 use Rattle.rules.proofs.Tests.{clash, and_both, both, or_cases, eqb-true}
-use Rattle.rules.proofs.Tables.{agree, agree_at, ascii_space}
+use Rattle.rules.proofs.Tables.{agree_at, ascii_space}
 use Rattle.rules.proofs.NumberBytes.{digit_ascii, radix_high}
 use Rattle.rules.proofs.RuleBytes.{by_spaces, by_letters, by_numeral, by_dollar}
 use Rattle.runs.specs.Classes.{past, inside, Skips}
 use Rattle.lexer.specs.Ends.{ends_at}
-use Rattle.lexer.specs.FirstBytes.{among, first_byte_kind, Operates}
+use Rattle.lexer.specs.FirstBytes.{among, first_byte_kind}
 use Rattle.lexer.specs.Words.{ascii_word}
 use Rattle.lexer.specs.declared.token.Lexed.{Lexed}
-use Rattle.lexer.proofs.Classes.{ascii_agree, ascii_tag, below}
+use Rattle.lexer.proofs.Classes.{ascii_tag, below}
 use Rattle.lexer.proofs.Edges.{inside_words}
 use Rattle.lexer.proofs.Ends.{lexed_is}
 use Rattle.lexer.proofs.FirstByteKinds.{lead_word, lead-space, lead-number, lead_operates, lead_alone, lead-longer}

@@ -1,9 +1,9 @@
 -- From one edge of a block to the next. Assumes nothing.
-use Prim.Native.Nat.{ℕ, zero, suc, ◌+◌, ◌-◌, ◌*◌, ◌/◌, ◌%◌, ◌^◌, ◌≤◌, ◌<◌}
+use Prim.Native.Nat.{ℕ, ◌+◌, ◌-◌, ◌*◌, ◌/◌, ◌%◌, ◌^◌, ◌≤◌, ◌<◌}
 use native.Mathlib.Omega.{arith}
 use native.Mathlib.Nat.{mod-eq_of_lt}
 use native.Mathlib.Decide.{dec_lt}
-use mathlib.Core.Path.{◌≡◌, refl, sym, ap, ap₂, ◌∙◌, subst}
+use mathlib.Core.Path.{◌≡◌, sym, ap, ◌∙◌, subst}
 use mathlib.Core.List.{List}
 use mathlib.Core.Bool.{Bool, true, false, ◌&&◌}
 use lib.ListN.{length, get_or, drop}
@@ -15,7 +15,6 @@ use Rattle.rules.specs.Tokens.{lexeme, after_dot_at}
 use Rattle.rules.proofs.Tests.{and_both}
 use Rattle.lexer.specs.Ends.{ends_at}
 use Rattle.lexer.specs.declared.token.Lexed.{Lexed}
-use Rattle.blocks.specs.Sets.{set}
 use Rattle.blocks.specs.Edges.{edge, edge_after}
 use Rattle.blocks.proofs.Sets.{set-lt}
 use Rattle.edges.specs.Leads.{lead, told}

@@ -1,19 +1,19 @@
 -- What the first byte of a token tells. Assumes nothing.
-use Prim.Native.Nat.{ℕ, ◌+◌, ◌-◌, ◌*◌, ◌/◌, ◌%◌, ◌^◌, ◌≤◌, ◌<◌}
+use Prim.Native.Nat.{ℕ, ◌-◌, ◌*◌, ◌/◌, ◌%◌, ◌^◌, ◌≤◌, ◌<◌}
 use native.Mathlib.Omega.{arith}
 use native.Mathlib.Decide.{dec_lt}
-use mathlib.Core.Path.{◌≡◌, refl, sym, ap, ◌∙◌}
+use mathlib.Core.Path.{◌≡◌, refl, ap, ◌∙◌}
 use mathlib.Core.List.{List, [], ◌∷◌}
-use mathlib.Core.Bool.{Bool, true, false, not, cond, ◌&&◌, ◌||◌}
+use mathlib.Core.Bool.{Bool, true, false, not, ◌&&◌, ◌||◌}
 use mathlib.Core.Logic.{◌⊎◌, inl, inr}
-use borrow.Author.Tests.{le-ltb, le-leb, lt-ltb, eq-eqb, not-true, not-false}
+use borrow.Author.Tests.{le-ltb, le-leb, lt-ltb, eq-eqb, not-true}
 use lib.Dec.{leb, ltb, eqb}
 use Rattle.rules.specs.Tables.{white_space_table}
 use Rattle.rules.specs.Classes.{in_ranges, white_space, digit}
 use Rattle.rules.specs.Characters.{double_quote, dollar, quote, back_quote}
 use Rattle.rules.specs.Kinds.{NoToken, Whitespace, Comment, Number, BareWord}
 use Rattle.rules.specs.Operators.{single}
-use Rattle.rules.specs.Words.{starts_word, word_character}
+use Rattle.rules.specs.Words.{starts_word}
 use Rattle.rules.specs.Dollars.{tag_byte}
 use Rattle.rules.proofs.Tests.{clash, eqb-true, or_cases, and_both}
 use Rattle.rules.proofs.Tables.{agree, agree_at}

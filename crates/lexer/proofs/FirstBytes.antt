@@ -3,10 +3,10 @@ use Prim.Native.Nat.{ℕ, ◌+◌, ◌-◌, ◌≤◌, ◌<◌}
 use native.Mathlib.Omega.{arith}
 use mathlib.Core.Path.{◌≡◌, sym, ap, ◌∙◌}
 use mathlib.Core.List.{List}
-use mathlib.Core.Bool.{Bool, false}
+use mathlib.Core.Bool.{Bool}
 use lib.ListN.{length, get_or, drop}
 use Rattle.rules.specs.Utf8.{chars}
-use Rattle.rules.specs.Classes.{white_space, digit}
+use Rattle.rules.specs.Classes.{white_space}
 use Rattle.rules.specs.Kinds.{NoToken, Whitespace, Comment, Number, BareWord}
 use Rattle.rules.specs.Lexeme.{run}
 use Rattle.rules.specs.Numbers.{number}

@@ -1,9 +1,9 @@
 -- Characters past ASCII at which no rule starts a token, told by their bytes. Assumes nothing.
 use Prim.Native.Nat.{ℕ, suc, ◌+◌, ◌*◌, ◌%◌, ◌≤◌, ◌<◌}
 use native.Mathlib.Omega.{arith}
-use mathlib.Core.Path.{◌≡◌, refl, sym, ap, ◌∙◌}
+use mathlib.Core.Path.{◌≡◌, refl, ap, ◌∙◌}
 use mathlib.Core.List.{List}
-use mathlib.Core.Bool.{Bool, true, false, ◌&&◌, ◌||◌, and-false}
+use mathlib.Core.Bool.{true, false, ◌&&◌, and-false}
 use mathlib.Core.Logic.{◌⊎◌, inl, inr}
 use lib.Dec.{leb, ltb, eqb}
 use lib.ListN.{length, get_or, drop}
@@ -13,7 +13,6 @@ use Rattle.rules.specs.Classes.{white_space}
 use Rattle.rules.specs.Characters.{quote_open, double_quote_open, minus_sign}
 use Rattle.rules.specs.Kinds.{ErrorToken}
 use Rattle.rules.specs.Lexeme.{is}
-use Rattle.rules.specs.Operators.{single}
 use Rattle.rules.proofs.Tables.{later_space}
 use Rattle.rules.proofs.Decoding.{at_index, three_other, formed-two, formed-three, width-formed, some_left, code_two, code_three}
 use Rattle.rules.proofs.RuleBytes.{wide_other, single_wide}

@@ -11,7 +11,7 @@ use lib.ListN.{length, get_or, drop}
 use lib.Seq.{get_or-drop}
 use native.Mathlib.Nat.{add-zero}
 use Rattle.rules.specs.Utf8.{Char, width, char_at, chars}
-use Rattle.rules.specs.Characters.{dot, semicolon, backslash, capital_g, small_g}
+use Rattle.rules.specs.Characters.{semicolon, backslash, capital_g, small_g}
 use Rattle.rules.specs.Lexeme.{Lexeme, is, first, two}
 use Rattle.rules.specs.Operators.{single, pair, spaceship, operator}
 use Rattle.rules.specs.Tokens.{Rule, others, rule, read, lexeme_of, lexeme, is_dot, after_dot_at, token_at}

@@ -1,5 +1,5 @@
 -- A text with some of its characters hidden: for each of them as many `#` as it has bytes.
-use Prim.Native.Nat.{ℕ, zero, suc, ◌+◌, ◌-◌, ◌<◌}
+use Prim.Native.Nat.{ℕ, zero, suc, ◌+◌, ◌<◌}
 use native.Mathlib.Omega.{arith}
 use native.Mathlib.Nat.{suc_inj}
 use mathlib.Core.Path.{◌≡◌, refl, sym, ap, subst}

@@ -9,11 +9,11 @@ use lib.Dec.{eqb}
 use lib.ListN.{length, get_or, drop}
 use lib.Seq.{get_or-drop}
 use native.Mathlib.Nat.{add-zero}
-use borrow.Author.Tests.{le-leb, lt-leb, ne_eqb, eqb-true}
+use borrow.Author.Tests.{le-leb, lt-leb, ne_eqb}
 use Rattle.rules.specs.Characters.{line_feed, carriage_return}
 use Rattle.rules.specs.Utf8.{within, Char, width, well_formed, char_of, code_of, char_at, chars}
 use Rattle.rules.specs.Lexeme.{first}
-use Rattle.rules.specs.Places.{Place, units, ends_line, Counted, before, line_ends, last_line, units_of, place_in, place_of}
+use Rattle.rules.specs.Places.{units, ends_line, Counted, before, line_ends, last_line, units_of, place_of}
 use Rattle.rules.proofs.Decoding.{Form, none, one, two, three, four, form_of, form_most, low_of, broken_range, width-broken, width-formed, some_left, ascii_at, chars-at, chars_end, fits_at, code_high}
 use Rattle.rules.proofs.Bytes.{next_is}
 

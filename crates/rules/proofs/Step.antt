@@ -5,7 +5,6 @@ use mathlib.Core.List.{List, [], ◌∷◌, ◌++◌}
 use mathlib.Core.Bool.{Bool, true, false}
 use Rattle.rules.specs.Utf8.{Char, width}
 use Rattle.rules.specs.Classes.{digit}
-use Rattle.rules.specs.Characters.{dot}
 use Rattle.rules.specs.Lexeme.{first, is}
 use Rattle.rules.specs.Tokens.{lexeme_of, is_dot}
 use Rattle.rules.specs.Masking.{front, back, mask_token}

@@ -5,7 +5,7 @@ use mathlib.Core.Path.{◌≡◌, refl, sym, ap, ap₂, ◌∙◌, subst}
 use mathlib.Core.List.{List}
 use mathlib.Core.Bool.{Bool, true, false, cond, ◌&&◌}
 use lib.ListN.{get_or}
-use lib.Bits.{bit_or, bit_xor, or_block, or_lt, xor_zero_r}
+use lib.Bits.{bit_or, or_block, or_lt, xor_zero_r}
 use Rattle.runs.specs.Classes.{Ascii, inside}
 use Rattle.runs.specs.Lanes.{ones, packed, others}
 use Rattle.runs.proofs.Firsts.{lane}

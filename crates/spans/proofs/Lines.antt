@@ -3,13 +3,12 @@ use Prim.Native.Nat.{ℕ, zero, suc, ◌+◌, ◌-◌, ◌≤◌, ◌<◌}
 use mathlib.Core.Path.{◌≡◌, refl, sym, ap, ◌∙◌}
 use mathlib.Core.List.{List, [], ◌∷◌}
 use mathlib.Core.Logic.{◌⊎◌, inl, inr}
-use mathlib.Core.Bool.{Bool, true, false}
 use native.Mathlib.Omega.{arith}
 use native.Mathlib.Decide.{dec_lt, dec_le}
 use lib.ListN.{length, get_or, drop}
-use Rattle.rules.specs.Utf8.{Char, width, char_at, chars, no_code}
-use Rattle.rules.specs.Places.{Place, Counted, units, ends_line, before, line_ends, last_line, units_of, place_in, place_of}
-use Rattle.rules.proofs.Decoding.{Tail, ascii_at, broken-at, fits_at, inside-at}
+use Rattle.rules.specs.Utf8.{Char, width, char_at, chars}
+use Rattle.rules.specs.Places.{Counted, units, before, line_ends, last_line, units_of, place_in, place_of}
+use Rattle.rules.proofs.Decoding.{ascii_at, broken-at, fits_at, inside-at}
 use Rattle.rules.proofs.Places.{ends_none, counted_at, before-step, before_stop, before_none, lines_none, units_none, lines_cons, units-cons, column_none, column_all, column_rest, units-width, width_most}
 use Rattle.spans.specs.Sums.{bit, between, end_at, surplus_at, Starts, Edge}
 use Rattle.spans.proofs.Sums.{sum_none, sum_join, sum_first, sum_zero, sum_some}

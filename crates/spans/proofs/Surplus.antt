@@ -9,7 +9,6 @@ use lib.Dec.{leb, eqb}
 use lib.ListN.{length, get_or, drop}
 use borrow.Author.Tests.{le-leb, lt-leb, ne_eqb, eq-eqb, leb-true, leb-false, eqb-true, eqb-false, not-true}
 use Rattle.rules.specs.Utf8.{within, utf8_tail, utf8_two, utf8_three, utf8_four, formed, well_formed, begun, width, char_at}
-use Rattle.rules.specs.Places.{units}
 use Rattle.rules.proofs.Tests.{and_both}
 use Rattle.rules.proofs.Decoding.{three-first, three_surrogate, three_other, four_first, four_last, four_other, four_above, at_index, begun_index, begun_low, begun_middle, begun_high, formed-one, formed_low, formed-two, formed-three, formed_four, form_of, form_most, broken_range, width-broken, width-formed, some_left}
 use Rattle.rules.proofs.Places.{units_four, units_other}

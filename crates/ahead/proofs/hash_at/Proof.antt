@@ -1,7 +1,6 @@
 -- `ahead::hash_at` meets its contract. The invariant: the bytes passed are tag bytes, and what is left is to be hashed on from here. The measure is what is
 -- left of the text. Assumes nothing.
 use Rattle.std.proofs.Common.{◌≡◌, ℕ, ◌+◌, ◌-◌, ◌<◌, ◌≤◌, true, false, length, get_or, drop, sym, refl, ap, ◌∙◌, arith, rules, below_more}
-use borrow.Author.Tests.{not-true, not-false}
 use lib.ListN.{get_or-eq_default}
 use Rattle.rules.specs.Dollars.{tag_byte}
 use Rattle.lexer.specs.HereDocs.{TagEnd}

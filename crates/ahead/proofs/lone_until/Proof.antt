@@ -1,6 +1,5 @@
 -- `ahead::lone_until` meets its contract. The invariant: no `$` so far begins a here-document. The measure is what is left of the text. Assumes nothing.
 use Rattle.std.proofs.Common.{◌-◌, ◌≤◌, length, ⊎_elim, arith}
-use borrow.Author.Tests.{not-false}
 use Rattle.ahead.specs.Marks.{Lone, LoneUntil}
 use Rattle.ahead.proofs.Bits.{lone_more}
 use Rattle.ahead.proofs.lone_until.Statement.{statement}

@@ -1,5 +1,5 @@
 -- `ahead::read_dollar` meets its contract: a `$` that is marked begins no here-document, and any other is read. Assumes nothing.
-use Rattle.std.proofs.Common.{◌≡◌, ℕ, ◌+◌, ◌/◌, ◌%◌, ◌^◌, List, sym, refl, ap, ◌∙◌, ap₂, arith, rules}
+use Rattle.std.proofs.Common.{◌≡◌, ℕ, ◌+◌, ◌/◌, ◌%◌, ◌^◌, sym, refl, ap, ◌∙◌, ap₂, arith, rules}
 use Rattle.rules.specs.Dollars.{dollar_lexeme}
 use Rattle.rules.specs.Tokens.{after_dot_at}
 use Rattle.rules.proofs.RuleBytes.{by_dollar}

@@ -1,5 +1,5 @@
 -- `ahead::wasted_by` meets its contract. Assumes nothing.
-use Rattle.std.proofs.Common.{◌≡◌, ℕ, ◌+◌, ◌-◌, ◌/◌, ◌%◌, ◌^◌, ◌≤◌, Bool, cond, sym, ap, ◌∙◌, div-le_self, arith, rules, eq-eqb, ne_eqb}
+use Rattle.std.proofs.Common.{◌≡◌, ℕ, ◌+◌, ◌-◌, ◌/◌, ◌%◌, ◌^◌, Bool, cond, sym, ap, ◌∙◌, div-le_self, arith, rules, eq-eqb, ne_eqb}
 use Rattle.ahead.specs.Marks.{wasted_by}
 use Rattle.ahead.proofs.wasted_by.Statement.{statement}
 use Rattle.ahead.proofs.wasted_by.Tie as tie

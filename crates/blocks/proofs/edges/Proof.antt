@@ -1,7 +1,6 @@
 -- `blocks::edges` meets its contract. Assumes nothing.
 use native.Mathlib.Omega.{arith}
 use borrow.Author.Rules.{rules}
-use mathlib.Core.Path.{◌≡◌, ◌∙◌}
 use Rattle.blocks.specs.Edges.{word_edges, figure_edges, outside}
 use Rattle.blocks.proofs.Sets.{cuts_are, cuts-lt}
 use Rattle.blocks.proofs.edges.Statement.{statement}

@@ -1,9 +1,8 @@
 -- `blocks::figure_bits` meets its contract: eight rows, turned. Assumes nothing.
-use Prim.Native.Nat.{ℕ, ◌+◌}
+use Prim.Native.Nat.{ℕ}
 use native.Mathlib.Omega.{arith}
 use borrow.Author.Rules.{rules}
 use mathlib.Core.Path.{◌≡◌, ◌∙◌}
-use lib.ListN.{get_or}
 use Rattle.runs.specs.Lanes.{packed, others}
 use Rattle.blocks.specs.Edges.{figure_edges, outside}
 use Rattle.blocks.proofs.Spans.{span, lanes, gathered}

@@ -1,10 +1,9 @@
 -- `blocks::turned` meets its contract. Assumes nothing.
-use Prim.Native.Nat.{ℕ, ◌/◌, ◌^◌}
+use Prim.Native.Nat.{◌/◌, ◌^◌}
 use native.Mathlib.Omega.{arith}
-use borrow.Author.Rules.{rules}
 use mathlib.Core.Path.{refl}
 use lib.Bits.{bit_xor, and_le_r}
-use Rattle.blocks.specs.Turns.{swap, turn}
+use Rattle.blocks.specs.Turns.{swap}
 use Rattle.blocks.proofs.turned.Statement.{statement}
 use Rattle.blocks.proofs.turned.Tie as tie
 

@@ -1,13 +1,12 @@
 -- `edges::plain` meets its contract. Assumes nothing.
-use Prim.Native.Nat.{ℕ, ◌+◌, ◌%◌, ◌≤◌, ◌<◌}
+use Prim.Native.Nat.{ℕ, ◌+◌, ◌%◌, ◌≤◌}
 use native.Mathlib.Omega.{arith}
 use borrow.Author.Rules.{rules}
-use mathlib.Core.Path.{◌≡◌, refl, sym, ap, ap₂, ◌∙◌}
-use mathlib.Core.Bool.{true}
+use mathlib.Core.Path.{refl, sym, ap, ap₂, ◌∙◌}
 use lib.ListN.{length, get_or}
 use lib.Count.{count_trailing_zeros, trailing_le}
 use Rattle.lexer.specs.declared.token.Lexed.{Lexed}
-use Rattle.edges.specs.Leads.{lead, told}
+use Rattle.edges.specs.Leads.{told}
 use Rattle.edges.proofs.Tells.{lead_small}
 use Rattle.edges.proofs.Walks.{end_in, token, next}
 use Rattle.edges.proofs.plain.Statement.{statement}

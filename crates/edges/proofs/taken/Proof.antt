@@ -1,7 +1,7 @@
 -- `edges::taken` meets its contract: the parts of the number, and the edges after its end. Assumes nothing.
 use Prim.Native.Nat.{ℕ, ◌%◌}
 use borrow.Author.Rules.{rules}
-use mathlib.Core.Path.{◌≡◌, ap, ap₂, ◌∙◌}
+use mathlib.Core.Path.{ap, ap₂, ◌∙◌}
 use Rattle.lexer.specs.declared.token.Lexed.{Lexed}
 use Rattle.lexer.proofs.Ends.{next_lies}
 use Rattle.edges.proofs.taken.Statement.{statement}

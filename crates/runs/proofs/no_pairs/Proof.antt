@@ -1,8 +1,7 @@
 -- `runs::no_pairs` meets its contract. Assumes nothing.
-use Prim.Native.Nat.{◌+◌, ◌*◌}
 use native.Mathlib.Omega.{arith}
 use borrow.Author.Rules.{rules}
-use mathlib.Core.Path.{◌≡◌, sym, ap, ap₂, ◌∙◌}
+use mathlib.Core.Path.{sym, ap, ap₂, ◌∙◌}
 use lib.Bits.{bit_or}
 use borrow.Author.Tests.{eqb-true}
 use Rattle.runs.specs.Lanes.{ones, others}

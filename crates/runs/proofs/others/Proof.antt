@@ -1,6 +1,5 @@
 -- `runs::others` meets its contract. Assumes nothing.
 use Prim.Native.Nat.{ℕ, ◌*◌, ◌≤◌}
-use native.Mathlib.Omega.{arith}
 use mathlib.Core.Path.{sym, ap, ◌∙◌}
 use lib.Bits.{bit_and, bit_or, bit_xor, and_le_r}
 use mathlib.Core.List.{List}

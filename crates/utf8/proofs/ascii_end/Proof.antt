@@ -1,7 +1,6 @@
 -- `utf8::ascii_end` meets its contract. Each loop's invariant: the text is well-formed from j to k. The measure is what is left. Assumes nothing.
 use Prim.Native.Nat.{◌-◌}
 use native.Mathlib.Omega.{arith}
-use borrow.Author.Tests.{not-false}
 use borrow.Author.Rules.{rules}
 use lib.ListN.{length}
 use Rattle.utf8.specs.Units.{Passes}

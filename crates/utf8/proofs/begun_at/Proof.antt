@@ -8,7 +8,6 @@ use lib.ListN.{get_or, drop}
 use Rattle.rules.specs.Utf8.{utf8_tail, utf8_three, utf8_four, broken_length}
 use Rattle.rules.proofs.Decoding.{begun_index, begun_low, begun_middle, begun_high}
 use borrow.Author.Rules.{rules}
-use borrow.Author.Tests.{not-true, not-false}
 use Rattle.utf8.proofs.begun_at.Statement.{statement}
 use Rattle.utf8.proofs.begun_at.Tie as tie
 

@@ -1,9 +1,9 @@
 -- `forms::reader::read_all` meets its contract, by the laws of `Steps`. Assumes nothing.
-use Rattle.std.proofs.Common.{◌≡◌, ℕ, List, refl, arith, sym, ap, ◌∙◌, add-one}
+use Rattle.std.proofs.Common.{◌≡◌, ℕ, List, refl, arith, ap, ◌∙◌, add-one}
 use Rattle.rules.specs.Answers.{step}
 use Rattle.steps.specs.Stepped.{stepped}
 use Rattle.lists.specs.Plans.{stored_by}
-use Rattle.forms.proofs.Steps.{Read, read_none, turn-read, read_done}
+use Rattle.forms.proofs.Steps.{read_none, turn-read, read_done}
 use Rattle.forms.proofs.reader.read_all.Goals as goal
 
 pub loop-i-init : goal.loop-i-init

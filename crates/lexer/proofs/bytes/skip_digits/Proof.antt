@@ -1,5 +1,4 @@
 -- The class by its edges. Assumes nothing.
-use native.Mathlib.Omega.{arith}
 use borrow.Author.Rules.{rules}
 use mathlib.Core.Bool.{false}
 use Rattle.runs.specs.Classes.{passes}

@@ -1,9 +1,8 @@
 -- `lexer::bytes::skip_to_either` meets its contract: it stands at one of the two already, or the run tells. Assumes nothing.
 use mathlib.Core.Path.{◌≡◌, sym, ap, ◌∙◌}
-use mathlib.Core.Bool.{Bool, true, false, not, ◌&&◌, ◌||◌, and-false}
+use mathlib.Core.Bool.{Bool, true, false, not, ◌&&◌, and-false}
 use mathlib.Core.Logic.{◌⊎◌, inl, inr}
 use lib.Dec.{eqb}
-use lib.ListN.{get_or}
 use borrow.Author.Rules.{rules}
 use Rattle.rules.proofs.Tests.{or_cases}
 use Rattle.lexer.proofs.Skips.{skips_as, skips_none}

@@ -10,7 +10,7 @@ use Rattle.rules.specs.Tokens.{after_dot_at}
 use Rattle.lexer.proofs.Decided.{neither, told-pair, told-single}
 use native.Mathlib.Omega.{arith}
 use borrow.Author.Rules.{rules}
-use mathlib.Core.Path.{◌≡◌, refl, sym, ap, ◌∙◌}
+use mathlib.Core.Path.{◌≡◌, sym, ap, ◌∙◌}
 use Rattle.lexer.specs.declared.token.Lexed.{Lexed}
 use Rattle.lexer.proofs.fast.fast_operator.Statement.{statement}
 use Rattle.lexer.proofs.fast.fast_operator.Tie as tie

@@ -1,10 +1,10 @@
 -- By the first byte. Assumes nothing.
-use Prim.Native.Nat.{ℕ, ◌≤◌, ◌<◌}
+use Prim.Native.Nat.{ℕ, ◌<◌}
 use native.Mathlib.Omega.{arith}
 use borrow.Author.Rules.{rules}
 use mathlib.Core.Path.{◌≡◌, sym, ap, ◌∙◌}
 use mathlib.Core.List.{List}
-use lib.ListN.{length, get_or}
+use lib.ListN.{get_or}
 use Rattle.rules.specs.Kinds.{BareWord}
 use Rattle.lexer.specs.Ends.{joined}
 use Rattle.lexer.specs.FirstBytes.{first_byte_kind}

@@ -1,6 +1,5 @@
 -- The number stops, or goes on as a word or as an error. Assumes nothing.
 use borrow.Author.Rules.{rules}
-use borrow.Author.Tests.{not-true, not-false}
 use mathlib.Core.Bool.{true, false}
 use Rattle.lexer.proofs.Numbers.{stops, goes}
 use Rattle.lexer.proofs.tokenizer.number_word.Statement.{statement}

@@ -5,7 +5,6 @@ use mathlib.Core.Bool.{true}
 use native.Mathlib.Omega.{arith}
 use borrow.Author.Rules.{rules}
 use borrow.Author.Count.{below_more}
-use borrow.Author.Tests.{not-true, not-false}
 use lib.ListN.{length, get_or, get_or-eq_default}
 use Rattle.rules.specs.Dollars.{tag_byte}
 use Rattle.lexer.proofs.Classes.{tag_word}

@@ -1,11 +1,10 @@
 -- `lists::listing::fill` meets its contract. The invariant: what is stored, with what is left, is as it was at first. The measure is what is left of the text.
 -- Assumes nothing.
-use Prim.Native.Nat.{◌+◌, ◌-◌, ◌*◌, ◌≤◌, ◌<◌}
-use mathlib.Core.Path.{◌≡◌, refl, ap, ◌∙◌, subst}
+use Prim.Native.Nat.{◌-◌, ◌≤◌}
+use mathlib.Core.Path.{refl, subst}
 use lib.ListN.{length}
 use native.Mathlib.Omega.{arith}
 use borrow.Author.Rules.{rules}
-use Rattle.rules.specs.Limits.{token_bytes}
 use Rattle.rules.specs.Listing.{pack}
 use Rattle.ahead.proofs.Bits.{marked_none}
 use Rattle.lists.specs.Choices.{chosen}

@@ -1,6 +1,6 @@
 -- `masking::copy::mask_some` meets its contract. The invariant: a copy that was masked up to the first offset is masked up to the cursor. The measure is
 -- what is left of the text. Assumes nothing.
-use Prim.Native.Nat.{ℕ, ◌+◌, ◌-◌, ◌≤◌, ◌<◌}
+use Prim.Native.Nat.{ℕ, ◌-◌, ◌≤◌, ◌<◌}
 use native.Mathlib.Omega.{arith}
 use mathlib.Core.Path.{◌≡◌, refl, sym, ◌∙◌, subst}
 use mathlib.Core.List.{List}
@@ -12,8 +12,7 @@ use Rattle.ahead.proofs.Bits.{marked_later}
 use Rattle.edges.specs.declared.Next.{Next}
 use Rattle.edges.specs.Left.{Left, Taken, Spared, Goes}
 use Rattle.edges.proofs.Going.{goes_first, goes_inside, goes_spared, goes_moves, goes_on, goes_moved}
-use Rattle.rules.specs.Masking.{front, back}
-use Rattle.masking.specs.Spans.{bytes_of, Span, Hiding}
+use Rattle.masking.specs.Spans.{Hiding}
 use Rattle.masking.specs.Walks.{Copied}
 use Rattle.masking.proofs.Spans.{span_length}
 use Rattle.masking.proofs.Copying.{next_apart, copied_more, copied_same}

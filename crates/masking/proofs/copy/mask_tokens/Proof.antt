@@ -2,11 +2,11 @@
 -- Assumes nothing.
 use Prim.Native.Nat.{◌-◌, ◌≤◌}
 use native.Mathlib.Omega.{arith}
-use mathlib.Core.Path.{◌≡◌, refl, sym, ◌∙◌}
+use mathlib.Core.Path.{◌≡◌, refl, ◌∙◌}
 use lib.ListN.{length}
 use borrow.Author.Rules.{rules}
 use Rattle.ahead.proofs.Bits.{marked_none}
-use Rattle.masking.specs.Walks.{Copied, MaskedOn}
+use Rattle.masking.specs.Walks.{Copied}
 use Rattle.masking.proofs.Copying.{filled-room, copied_none, copied_all}
 use Rattle.masking.proofs.copy.mask_tokens.Statement.{statement}
 use Rattle.masking.proofs.copy.mask_tokens.Tie as tie

@@ -6,7 +6,6 @@ use mathlib.Core.Bool.{true}
 use lib.ListN.{length, take}
 use lib.Seq.{length-take-le}
 use borrow.Author.Rules.{rules}
-use borrow.Author.Tests.{not-true, not-false}
 use Rattle.rules.specs.Utf8.{valid_length}
 use Rattle.rules.specs.Limits.{max_query_size}
 use Rattle.rules.specs.Answers.{Done, NotUtf8}

@@ -1,6 +1,6 @@
 -- `spans::places::extent_of_block` meets its contract. The invariant: the bytes so far are within the two. The measure is what is left. Assumes nothing.
-use Prim.Native.Nat.{ℕ, ◌+◌, ◌-◌, ◌≤◌, ◌<◌}
-use mathlib.Core.Path.{◌≡◌, subst}
+use Prim.Native.Nat.{◌+◌, ◌-◌, ◌≤◌}
+use mathlib.Core.Path.{◌≡◌}
 use mathlib.Core.Logic.{⊎_elim}
 use lib.ListN.{get_or}
 use native.Mathlib.Omega.{arith}

@@ -4,7 +4,7 @@ use native.Mathlib.Omega.{arith}
 use mathlib.Core.Path.{◌≡◌, sym, ap, ◌∙◌}
 use mathlib.Core.Logic.{⊎_elim}
 use lib.ListN.{length}
-use Rattle.spans.specs.Sums.{bit, between, end_at, surplus_at, Starts}
+use Rattle.spans.specs.Sums.{between, end_at, surplus_at, Starts}
 use Rattle.spans.proofs.Sums.{sum_none, sum_join}
 use Rattle.spans.proofs.Lines.{starts_near, starts_far}
 use Rattle.spans.proofs.Blocks.{end_marks, ends_high, block_most}

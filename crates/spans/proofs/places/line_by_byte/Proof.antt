@@ -1,8 +1,8 @@
 -- `spans::places::line_by_byte` meets its contract. The invariant: no line ends with a byte from i on, and the surplus from there. The measure is what is left. Assumes nothing.
-use Prim.Native.Nat.{◌+◌, ◌-◌, ◌*◌, ◌≤◌}
+use Prim.Native.Nat.{◌+◌, ◌-◌, ◌≤◌}
 use mathlib.Core.Path.{◌≡◌, sym, ap, ◌∙◌}
 use native.Mathlib.Omega.{arith}
-use Rattle.spans.specs.Sums.{bit, between, end_at, surplus_at, Starts}
+use Rattle.spans.specs.Sums.{bit, between, end_at, surplus_at}
 use Rattle.spans.proofs.Sums.{sum_none, sum_before}
 use Rattle.spans.proofs.Blocks.{block_most}
 use Rattle.spans.proofs.places.line_by_byte.Statement.{statement}

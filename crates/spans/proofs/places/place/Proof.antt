@@ -1,5 +1,5 @@
 -- `spans::places::place` meets its contract: the tests are document 01's, in its order, and a place is its two sums. Assumes nothing.
-use mathlib.Core.Path.{◌≡◌, sym, ap, ◌∙◌}
+use mathlib.Core.Path.{◌≡◌}
 use mathlib.Core.Bool.{false}
 use native.Mathlib.Omega.{arith}
 use lib.ListN.{length}
