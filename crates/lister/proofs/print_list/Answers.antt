@@ -1,6 +1,5 @@
 -- The tokens that are counted lie within the list.
-use Rattle.std.proofs.Common.{◌*◌, ◌≤◌, length, arith}
-use Rattle.rules.specs.Limits.{token_bytes}
+use Rattle.std.proofs.Common.{arith}
 use Rattle.lister.proofs.Fits.{done_fits}
 use Rattle.lister.proofs.print_list.Goals as goal
 
