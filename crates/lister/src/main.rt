@@ -3,7 +3,7 @@
 
 ghost use Rattle.std.specs.Prelude.{◌≡◌, ◌*◌, ◌≤◌, length};
 ghost use Rattle.rules.specs.Limits.{token_bytes};
-ghost use Rattle.lister.specs.Input.{count_of};
+ghost use Rattle.lister.specs.Input.{count_of, ReadSome, ReadText};
 
 use lexer::token::Token;
 use lists::listing::{Settings, tokenize};
@@ -39,8 +39,9 @@ enum Input {
     Failed,
 }
 
-fn read_some(input: &mut impl Read, part: &mut [u8]) -> Input
-    ensures { count_of result ≤ length part.new }
+fn read_some<R: Read>(input: &mut R, part: &mut [u8]) -> Input
+    ensures bound { count_of result ≤ length part.new }
+    ensures bytes { ReadSome (R.remaining input.old) (R.remaining input.new) result part.new }
 {
     match input.read(part) {
         Ok(n) => Input::Bytes(n),
@@ -49,8 +50,9 @@ fn read_some(input: &mut impl Read, part: &mut [u8]) -> Input
 }
 
 // Reads until the text is full or the input ends: a pipe gives its bytes in pieces.
-fn read_text(input: &mut impl Read, text: &mut [u8]) -> Input
-    ensures { count_of result ≤ length text.new }
+fn read_text<R: Read>(input: &mut R, text: &mut [u8]) -> Input
+    ensures bound { count_of result ≤ length text.new }
+    ensures bytes { ReadText (R.remaining input.old) (R.remaining input.new) result text.new }
 {
     let mut n = 0;
     while n < text.len() {
