@@ -14,11 +14,11 @@ use Rattle.lexer.specs.declared.token.Token.{Token}
 use Rattle.forms.specs.Records.{Recorded, recorded}
 use Rattle.forms.proofs.Outcomes.{packed-outcome}
 
--- what is written of an outcome in a packed list; `recordsBy` says what is recorded of it
+-- what is written of an outcome in a packed list; `records_by` says what is recorded of it
 abbrev packs : Outcome → List ℕ → Written
 packs o list = record { number = o.number; value = o.value; buffer = filled (pack o.tokens) list }
 
--- the packed listing has the outcome of which `recordListing` is made
+-- the packed listing has the outcome of which `record_listing` is made
 pub same_whole : (mode : ℕ) (text list : List ℕ) (records : List Token) → room list ≡ length records → listing mode text list ≡ packs (outcome (whole_plan mode text) (length records)) list
 same_whole mode text list records e = whole_planned mode text list ∙ packed-outcome (whole_plan mode text) list ∙ ap (λ (n : ℕ). packs (outcome (whole_plan mode text) n) list) e
 
