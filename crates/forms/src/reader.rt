@@ -87,7 +87,7 @@ fn put_at(list: &mut [u8], i: usize, found: Token) -> usize
     i + 1
 }
 
-// A text read with a reader to its end, into a packed list. Its contract says nothing of a reader, so whoever calls it is covered.
+// A text read with a reader to its end, into a packed list.
 pub fn read_all(text: &[u8], list: &mut [u8]) -> Answer
     ensures { written result list.new ≡ packed_by (steps_plan text.now) list.old }
 {

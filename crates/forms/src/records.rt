@@ -47,7 +47,7 @@ pub fn tokenize_up_to_position_records(
     store_records(text, plan, list)
 }
 
-// The whole listing in records by value. Those past the list, and all where it is refused, have kind 0. The contract says nothing of a lent slice, so whoever calls this is covered.
+// The whole listing in records by value. Those past the list, and all where it is refused, have kind 0.
 pub fn records_64(settings: Settings, text: &[u8]) -> [Token; 64]
     ensures { result ≡ (record_listing settings.mode text.now no_records).records }
 {

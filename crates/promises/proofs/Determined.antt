@@ -1,6 +1,6 @@
 -- A contract determines what comes back: any two results of one call that it allows are equal, and so is what each lent buffer holds afterwards.
 -- `ended` and `Learnt` are the toolchain's own for each function: how its parameters end, and what its contract tells a caller.
--- Every public function of the libraries is here but those that docs/PROMISES.md names: some leave a choice that no answer shows, and the walked ones of `forms` have no `Learnt`.
+-- Every public function of the libraries is here but those that docs/PROMISES.md names: some leave a choice that no answer shows.
 -- Assumes nothing.
 use Prim.Native.Nat.{ℕ, ◌/◌, ◌%◌, ◌^◌}
 use mathlib.Core.Path.{◌≡◌, refl, sym, ap, ◌∙◌}
@@ -41,6 +41,8 @@ use Rattle.forms.proofs.reader as reader
 use Rattle.forms.specs.contracts.reader as reader_says
 use Rattle.forms.proofs.records as records
 use Rattle.forms.specs.contracts.records as records_says
+use Rattle.forms.proofs.Same.{one-recorded}
+use Rattle.forms.specs.declared.reader.Reader.{Reader}
 use Rattle.masking.proofs.copy as copy
 use Rattle.masking.specs.contracts.copy as copy_says
 use Rattle.spans.proofs.parts as parts
@@ -75,6 +77,9 @@ lent place e = (e.0, ap place e.1)
 
 one_settings : (r s : Settings) → (r.mode ≡ s.mode) × (r.position ≡ s.position) → r ≡ s
 one_settings r s e i = record { mode = e.0 i; position = e.1 i }
+
+one_reader : (r s : Reader) → (r.text ≡ s.text) × (r.at ≡ s.at) → r ≡ s
+one_reader r s e i = record { text = e.0 i; at = e.1 i }
 
 pub max_query_size : Determined rules_says.max_query_size.ended rules.max_query_size.Reads.Learnt
 max_query_size κs a r s u v p q = (same p q, refl)
@@ -214,6 +219,27 @@ tokenize κs a r s u v p q = lent (λ l. (tt, (tt, (l, tt)))) (one_answer r s _ 
 
 pub tokenize_up_to_position : Determined listing_says.tokenize_up_to_position.ended listing.tokenize_up_to_position.Reads.Learnt
 tokenize_up_to_position κs a r s u v p q = lent (λ l. (tt, (tt, (l, tt)))) (one_answer r s _ _ _ p q)
+
+pub reader_open : Determined reader_says.«open».ended reader.«open».Reads.Learnt
+reader_open κs a r s u v p q = (one_reader r s (both p q), refl)
+
+pub next : Determined reader_says.next.ended reader.next.Reads.Learnt
+next κs a r s u v p q = (same p q, refl)
+
+pub at_end : Determined reader_says.at_end.ended reader.at_end.Reads.Learnt
+at_end κs a r s u v p q = (same p q, refl)
+
+pub moved : Determined reader_says.moved.ended reader.moved.Reads.Learnt
+moved κs a r s u v p q = (one_reader r s (both p q), refl)
+
+pub store_records : Determined records_says.store_records.ended records.store_records.Reads.Learnt
+store_records κs a r s u v p q = lent (λ l. (tt, (tt, (l, tt)))) (one-recorded r s _ _ _ p q)
+
+pub tokenize_records : Determined records_says.tokenize_records.ended records.tokenize_records.Reads.Learnt
+tokenize_records κs a r s u v p q = lent (λ l. (tt, (tt, (l, tt)))) (one-recorded r s _ _ _ p q)
+
+pub tokenize_up_to_position_records : Determined records_says.tokenize_up_to_position_records.ended records.tokenize_up_to_position_records.Reads.Learnt
+tokenize_up_to_position_records κs a r s u v p q = lent (λ l. (tt, (tt, (l, tt)))) (one-recorded r s _ _ _ p q)
 
 pub read_all : Determined reader_says.read_all.ended reader.read_all.Reads.Learnt
 read_all κs a r s u v p q = lent (λ l. (tt, (l, tt))) (one_answer r s _ _ _ p q)
