@@ -139,16 +139,13 @@ module _ (plan : Plan) (s : List ℕ) (ys : List Token) (begun : Picking) (fits 
   stood_first lone c m = record { reached = reached_first lone c m; within = omega arith; holds = sym (over_none all ys) }
 
   module _ (i : ℕ) (at : Picking) (lone : List ℕ) (list : List Token) (h : Stood s begun ys i at lone list) (r : Picking) (lone' : List ℕ) (p : Picks s at r lone' (records_from at.plan s)) where
-    -- what was found is one more of them, and there is room for it
-    pub more : r.found ≡ true → i < length all
+    -- what was found is one more of them
+    more : r.found ≡ true → i < length all
     more e = go (dec_lt i (length all))
       where
         go : Dec (i < length all) → i < length all
         go (yes l) = l
         go (no l) = absurd (true≢false (sym e ∙ turn_none i at lone h.reached r lone' p (omega arith)))
-
-    pub room : r.found ≡ true → i < length list
-    room e = omega (arith, more e, has_room, ap length h.holds, over_length i all ys)
 
     pub stood_more : r.found ≡ true → Stood s begun ys (i + 1) r lone' (set list i r.token)
     stood_more e =
