@@ -4,22 +4,40 @@ mod stored;
 
 use giehtamun::MAX_QUERY_SIZE;
 use ran::{prints, prints_bytes, run};
+use std::env;
 use std::fs::{self, Permissions};
 use std::io::Write;
+use std::ops::Deref;
 use std::os::unix::fs::{PermissionsExt, symlink};
 use std::path::{Path, PathBuf};
-use std::process::{Command, Stdio};
+use std::process::{self, Command, Stdio};
 
 fn refuses(words: &[&str], input: &[u8], says: &str) {
     ran::refuses(words, input, says, 1);
 }
 
-/// An empty folder of a test's own.
-fn folder(name: &str) -> PathBuf {
-    let folder = Path::new(env!("CARGO_TARGET_TMPDIR")).join(name);
+/// An empty folder of a test's own, which goes with the test. It is outside of the checkout, in which `rt ci` takes no links.
+struct Folder(PathBuf);
+
+impl Deref for Folder {
+    type Target = Path;
+
+    fn deref(&self) -> &Path {
+        &self.0
+    }
+}
+
+impl Drop for Folder {
+    fn drop(&mut self) {
+        drop(fs::remove_dir_all(&self.0));
+    }
+}
+
+fn folder(name: &str) -> Folder {
+    let folder = env::temp_dir().join(format!("giehtamun-{name}-{}", process::id()));
     drop(fs::remove_dir_all(&folder));
     fs::create_dir(&folder).unwrap();
-    folder
+    Folder(folder)
 }
 
 fn names(folder: &Path) -> Vec<String> {
