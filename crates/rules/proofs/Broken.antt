@@ -110,13 +110,13 @@ module _ (t : List ℕ) (h : 0 < length t) (broken : well_formed t ≡ 0) where
     size = length-take-le m t l
 
     same : (i : ℕ) → i < m → get_or longer i 0 ≡ get_or t i 0
-    same i u = get_or-append (take m t) r 0 i (omega (arith, size)) ∙ get_d_take t m i u
+    same i u = get_or-append (take m t) r 0 i (omega (arith, size)) ∙ get_or_take t m i u
       where
-        get_d_take : (t : List ℕ) (m i : ℕ) → i < m → get_or (take m t) i 0 ≡ get_or t i 0
-        get_d_take t zero i u = absurd (omega arith)
-        get_d_take [] (suc m) i u = refl
-        get_d_take (x ∷ t) (suc m) zero u = refl
-        get_d_take (x ∷ t) (suc m) (suc i) u = get_d_take t m i (omega arith)
+        get_or_take : (t : List ℕ) (m i : ℕ) → i < m → get_or (take m t) i 0 ≡ get_or t i 0
+        get_or_take t zero i u = absurd (omega arith)
+        get_or_take [] (suc m) i u = refl
+        get_or_take (x ∷ t) (suc m) zero u = refl
+        get_or_take (x ∷ t) (suc m) (suc i) u = get_or_take t m i (omega arith)
 
     -- it has more bytes than the run, which would be whole otherwise
     more : 0 < m → m < well_formed longer
