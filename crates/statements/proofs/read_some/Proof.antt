@@ -85,16 +85,31 @@ module _ (n : tie.Joined-token-eq-NoToken invariant-loop-cursor decreases-loop-c
 began : (t : tie.Start invariant-loop-cursor decreases-loop-cursor) → let f = t.args.from in let x = t.args.text.now in found x (read_up_to f.cursor f.tokens (length x)) ≡ found x f
 began t = ap (λ (b : ℕ). found t.args.text.now (read_up_to t.args.from.cursor t.args.from.tokens b)) (sym t.requires.1.bytes)
 
--- a delimiter
+-- a delimiter; what is known is cited by name, so that it is found where the test has steps of its own too, as in an edit
 returns-then-is_delimiter : tie.Need-returns-then-is_delimiter invariant-loop-cursor decreases-loop-cursor
 returns-then-is_delimiter c =
-    let n = c.before.before.before in
-    let t = n.before.before.before.before.before in
-    let v = t.before.loop-cursor.invariant in
-    let e = read-delimiter (s t) (read_up_to (i t) t.before.loop-cursor.tokens (length (s t))) v.1 (inside t).1 (r n) (settled n).0 (sym c.before.before.is_delimiter.ensures ∙ c.before.if-is_delimiter.true) in
-    let m = moves n in
-    subst (ReadOn (s t) (st t).args.from) (sym c.read_up_to.ensures)
-    (record { moved = λ l. omega (arith, (goes t).later, m); inside = m.1; same = e ∙ v.2 ∙ began (st t); still = λ l. absurd (omega (arith, m)) })
+    let s = c.args.text.now in
+    let f = c.args.from in
+    let i = c.loop-cursor.cursor in
+    let v = c.loop-cursor.invariant in
+    let base = c.if-bits-eq0.base in
+    let token = c.if-token-eq-NoToken.token in
+    let inside = goes_inside s _ _ _ _ _ _ i v.0 (omega arith) c.loop-cursor-test.true in
+    let left : Left s i base c.if-bits-eq0.bits = ⊎_elim (λ w. rw (w.base-is, w.bits-is) w.find-bits.ensures) (λ w. rw (w.base-is, w.bits-is) v.0.left) c.if-bits-eq0.branch-raw in
+    let is : Next → Type 0 = Taken s i base in
+    let settled : is token =
+    ⊎_elim
+    (λ w. subst is (sym w.token-is) (w.taken-token.ensures s i c.requires.0 inside.1 w.read-lexed.ensures left))
+    (⊎_elim
+    (λ w. subst is (sym w.token-is) (w.taken-token.ensures s i c.requires.0 inside.1 w.read-lexed.ensures left))
+    (λ w. subst is (sym w.token-is) (c.plain-token.ensures w.if-token-eq-NoToken.false)))
+    c.if-token-eq-NoToken.branch-raw in
+    let r : Lexed = record { kind = token.kind; end = token.end } in
+    let e = read-delimiter s (read_up_to i c.loop-cursor.tokens (length s)) v.1 inside.1 r settled.0 (sym c.is_delimiter.ensures ∙ c.if-is_delimiter.true) in
+    let m = goes_moves s _ _ _ _ _ _ i v.0 (omega arith) c.loop-cursor-test.true base token settled in
+    let b : found s (read_up_to f.cursor f.tokens (length s)) ≡ found s f = ap (λ (b : ℕ). found s (read_up_to f.cursor f.tokens b)) (sym c.requires.1.bytes) in
+    subst (ReadOn s f) (sym c.read_up_to.ensures)
+    (record { moved = λ l. omega (arith, v.0.later, m); inside = m.1; same = e ∙ v.2 ∙ b; still = λ l. absurd (omega (arith, m)) })
 
 -- any other token
 loop-cursor-preserved : tie.Need-loop-cursor-preserved invariant-loop-cursor decreases-loop-cursor
