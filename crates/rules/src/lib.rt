@@ -1,7 +1,7 @@
 // The numbers of document 01 that a later request may change, as code reads them. The definitions are in specs/Limits.antt.
 #![tactic(auto)]
 
-pub mod answer;
+pub mod refusal;
 
 ghost use Rattle.std.specs.Prelude.{◌≡◌};
 ghost use Rattle.rules.specs.Limits.{max_query_size, token_bytes, mask_byte};
