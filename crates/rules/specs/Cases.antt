@@ -3,8 +3,6 @@
 use Rattle.std.specs.Prelude.{ℕ, ◌≡◌, List, [], length, Result, Ok, Err}
 use Rattle.rules.specs.Answers as table
 use Rattle.rules.specs.Saved as files
-use Rattle.rules.specs.Tokens.{Token, token}
-use Rattle.rules.specs.Places.{Place}
 use Rattle.rules.specs.declared.refusal.Refusal.{Refusal}
 use Rattle.rules.specs.declared.refusal.Refusal.TheVariants.{TooLong, NotUtf8, NoRoom, Beyond, NoPart, NoMode, OtherLength, Malformed, NoVersion}
 
@@ -54,3 +52,8 @@ written answer buffer = record { number = number_of answer; value = value_of ans
 -- An answer has this number and this value.
 abbrev pub says : Answer → ℕ → ℕ → Type 0
 says answer number value = (number_of answer ≡ number) × (value_of answer ≡ value)
+
+-- A part that is answered, by the bytes of what an Ok holds; "a refused part is empty".
+abbrev pub part : {T : Type 0} → Result T Refusal → (T → List ℕ) → table.Part
+part (Ok x) bytes = record { number = table.Done; value = length (bytes x); bytes = bytes x }
+part (Err refusal) bytes = record { number = refusal_number refusal; value = refusal_value refusal; bytes = [] }

@@ -1,4 +1,5 @@
--- Sums over bytes; what a byte adds to them, and a block; and that a place is made of them.
+-- What both kinds of part refuse; sums over bytes; what a byte adds to them, and a block; and that a place is made of them.
+mod Refused
 pub mod Sums
 pub mod Surplus
 pub mod Blocks

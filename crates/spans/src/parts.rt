@@ -1,14 +1,14 @@
-// Token text and shown text. For each, one function gives number and value, and another the part itself; a refused part is empty.
-ghost use Rattle.std.specs.Prelude.{◌≡◌, get_or};
-ghost use Rattle.rules.specs.Utf8.{utf8_tail};
+// Token text and shown text.
+ghost use Rattle.std.specs.Prelude.{◌≡◌};
 ghost use Rattle.rules.specs.Kinds.{hiding_kind, some_kind};
 ghost use Rattle.rules.specs.Answers.{no_part, token_text, shown_text};
-ghost use Rattle.rules.specs.Cases.{says};
+ghost use Rattle.rules.specs.Cases.{part};
+ghost use Rattle.spans.specs.Parts.{checked_part};
 
 use lexer::syntax_kind::SyntaxKind;
-use rules::answer::Answer;
 use rules::max_query_size;
-use utf8::byte_at;
+use rules::refusal::Refusal;
+use utf8::{byte_at, is_tail};
 
 // Whether the text of a token of this kind is shown masked.
 pub fn hides(kind: u32) -> bool
@@ -27,60 +27,32 @@ fn is_kind(kind: u32) -> bool
     (SyntaxKind::Whitespace <= kind) & (kind <= SyntaxKind::ErrorMaxQuerySizeExceeded)
 }
 
-// Whether the byte at `at` is inside a character.
-fn continues(text: &[u8], at: usize) -> bool
-    ensures { result ≡ utf8_tail (get_or text.now at 0) }
-{
-    let b = byte_at(text, at);
-    (0x80 <= b) & (b <= 0xBF)
-}
-
+// The part is none: out of order, past the end, or cut inside a character.
 fn no_part(text: &[u8], start: usize, end: usize) -> bool
     ensures { result ≡ no_part text.now start end }
 {
-    (end < start) | (text.len() < end) | continues(text, start) | continues(text, end)
+    (end < start) | (text.len() < end) | is_tail(byte_at(text, start)) | is_tail(byte_at(text, end))
 }
 
-// What token text answers: the part's bytes.
-pub fn token_text_answer(text: &[u8], start: usize, end: usize) -> Answer
-    ensures { let p = token_text text.now start end in says result p.number p.value }
+// What token text and shown text both refuse.
+fn check_part(text: &[u8], start: usize, end: usize) -> Result<(), Refusal>
+    ensures { result ≡ checked_part text.now start end }
 {
     if text.len() > max_query_size() {
-        return Answer::TooLong(0);
+        return Err(Refusal::TooLong(0));
     }
     if no_part(text, start, end) {
-        return Answer::NoPart;
+        return Err(Refusal::NoPart);
     }
-    Answer::Done(end - start)
+    Ok(())
 }
 
 // The part of the text from start to end.
-pub fn token_text<'a>(text: &'a [u8], start: usize, end: usize) -> &'a [u8]
-    ensures { result.now ≡ (token_text text.now start end).bytes }
+pub fn token_text<'a>(text: &'a [u8], start: usize, end: usize) -> Result<&'a [u8], Refusal>
+    ensures { part result (λ bytes. bytes.now) ≡ token_text text.now start end }
 {
-    if token_text_answer(text, start, end).number() != 0 {
-        return &text[0..0];
-    }
-    &text[start..end]
-}
-
-// What shown text answers: the part's bytes.
-pub fn shown_text_answer(text: &[u8], copy: &[u8], kind: u32, start: usize, end: usize) -> Answer
-    ensures { let p = shown_text text.now copy.now kind start end in says result p.number p.value }
-{
-    if text.len() > max_query_size() {
-        return Answer::TooLong(0);
-    }
-    if no_part(text, start, end) {
-        return Answer::NoPart;
-    }
-    if !is_kind(kind) {
-        return Answer::NoPart;
-    }
-    if copy.len() != text.len() {
-        return Answer::OtherLength;
-    }
-    Answer::Done(end - start)
+    check_part(text, start, end)?;
+    Ok(&text[start..end])
 }
 
 // The part of the masked copy for a hiding kind, and the part of the text otherwise.
@@ -90,14 +62,16 @@ pub fn shown_text<'a>(
     kind: u32,
     start: usize,
     end: usize,
-) -> &'a [u8]
-    ensures { result.now ≡ (shown_text text.now copy.now kind start end).bytes }
+) -> Result<&'a [u8], Refusal>
+    ensures { part result (λ bytes. bytes.now) ≡ shown_text text.now copy.now kind start end }
 {
-    if shown_text_answer(text, copy, kind, start, end).number() != 0 {
-        return &text[0..0];
+    check_part(text, start, end)?;
+    if !is_kind(kind) {
+        return Err(Refusal::NoPart);
     }
-    if hides(kind) {
-        return &copy[start..end];
+    if copy.len() != text.len() {
+        return Err(Refusal::OtherLength);
     }
-    &text[start..end]
+    let shown = if hides(kind) { copy } else { text };
+    Ok(&shown[start..end])
 }

@@ -11,13 +11,12 @@ ghost use Rattle.spans.specs.Placed.{placed};
 ghost use Rattle.spans.specs.Sums.{between, goes_on, surplus_by, marked, mark_at, end_at, surplus_at, Within, Starts, Edge};
 
 use rules::max_query_size;
+use rules::refusal::Refusal;
 use utf8::{byte_at, is_tail, len_at};
 
-// What `place` gives: document 01's number and value, and the place.
-#[derive(Clone, Copy)]
-pub struct Placed {
-    pub number: u32,
-    pub value: usize,
+// Of an offset: its line, and its column in that line.
+#[derive(Clone, Copy, PartialEq, Eq, Debug)]
+pub struct Position {
     pub line: usize,
     pub column: usize,
 }
@@ -287,31 +286,19 @@ fn edge_of(text: &[u8], offset: usize) -> usize
     offset
 }
 
-pub fn place(text: &[u8], offset: usize) -> Placed
-    ensures { result ≡ placed (place_at text.now offset) }
+pub fn place(text: &[u8], offset: usize) -> Result<Position, Refusal>
+    ensures { placed result offset ≡ place_at text.now offset }
 {
     if text.len() > max_query_size() {
-        return Placed {
-            number: 1,
-            value: 0,
-            line: 0,
-            column: 0,
-        };
+        return Err(Refusal::TooLong(0));
     }
     if text.len() < offset {
-        return Placed {
-            number: 4,
-            value: 0,
-            line: 0,
-            column: 0,
-        };
+        return Err(Refusal::Beyond);
     }
     let edge = edge_of(text, offset);
     let line = line_before(text, edge);
-    Placed {
-        number: 0,
-        value: offset,
+    Ok(Position {
         line: line_ends(text, line.start),
         column: edge - line.start - line.surplus,
-    }
+    })
 }
