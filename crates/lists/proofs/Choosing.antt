@@ -3,7 +3,8 @@
 use Prim.Native.Nat.{ℕ, ◌+◌, ◌/◌, ◌%◌, ◌^◌, ◌≤◌, ◌<◌}
 use native.Mathlib.Omega.{arith}
 use mathlib.Core.Path.{◌≡◌, refl, sym, ap, ◌∙◌, fun_ext}
-use mathlib.Core.Logic.{◌⊎◌, inl, inr}
+use Rattle.std.proofs.Common.{min}
+use Rattle.std.proofs.Math.Nat.{min-eq_left, min-eq_right}
 use mathlib.Core.List.{List, [], ◌∷◌}
 use mathlib.Core.Bool.{Bool, true, false, not, cond, ◌&&◌, ◌||◌, or-false}
 use lib.Dec.{eqb, leb}
@@ -49,18 +50,17 @@ whole_chosen mode s = rw (← from_start s, early_all s (length s) (omega arith)
     go false = sym (only_all (λ t. keeps (choice (length s) false false) t.kind) (λ t. refl) (tokens s))
 
 -- A position beyond the text's end is as good as the end.
-pub up_to_chosen : (mode position stop : ℕ) (s : List ℕ) → (stop ≡ position) ⊎ ((stop ≡ length s) × (length s ≤ position))
-    → list_up_to mode position s ≡ chosen (choice stop (eqb mode lean) false) s 0
+pub up_to_chosen : (mode position : ℕ) (s : List ℕ) → list_up_to mode position s ≡ chosen (choice (min position (length s)) (eqb mode lean) false) s 0
 unfolding list_up_to chosen
-up_to_chosen mode position stop s w = rw (← from_start s, same w) (go (eqb mode lean))
+up_to_chosen mode position s = rw (← from_start s, same (dec_lt (length s) position)) (go (eqb mode lean))
   where
-    same : (stop ≡ position) ⊎ ((stop ≡ length s) × (length s ≤ position)) → only (starts_before position) (tokens s) ≡ only (starts_before stop) (tokens s)
-    same (inl e) = rw e
-    same (inr e) = early_all s position e.1 ∙ sym (early_all s stop (omega arith))
+    same : Dec (length s < position) → only (starts_before position) (tokens s) ≡ only (starts_before (min position (length s))) (tokens s)
+    same (yes h) = early_all s position (omega arith) ∙ sym (early_all s (min position (length s)) (omega (arith, min-eq_right {n = length s} {m = position} (omega arith))))
+    same (no h) = ap (λ (p : ℕ). only (starts_before p) (tokens s)) (sym (min-eq_left {n = position} {m = length s} (omega arith)))
 
-    go : (b : Bool) → let ts = only (starts_before stop) (tokens s) in cond b (only lean_up_to_keeps ts) ts ≡ only (λ t. keeps (choice stop b false) t.kind) ts
-    go true = ap (λ p. only p (only (starts_before stop) (tokens s))) (fun_ext (λ t. ap not (sym (or-false (eqb t.kind Whitespace)))))
-    go false = sym (only_all (λ t. keeps (choice stop false false) t.kind) (λ t. refl) (only (starts_before stop) (tokens s)))
+    go : (b : Bool) → let ts = only (starts_before (min position (length s))) (tokens s) in cond b (only lean_up_to_keeps ts) ts ≡ only (λ t. keeps (choice (min position (length s)) b false) t.kind) ts
+    go true = ap (λ p. only p (only (starts_before (min position (length s))) (tokens s))) (fun_ext (λ t. ap not (sym (or-false (eqb t.kind Whitespace)))))
+    go false = sym (only_all (λ t. keeps (choice (min position (length s)) false false) t.kind) (λ t. refl) (only (starts_before (min position (length s))) (tokens s)))
 
 -- There are no more tokens than bytes.
 pub chosen_most : (c : Choice) (s : List ℕ) → length (chosen c s 0) ≤ length s

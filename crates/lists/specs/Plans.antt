@@ -1,36 +1,39 @@
--- Plans, in the code's own enum.
-use Rattle.std.specs.Prelude.{ℕ, ◌≤◌, ◌≡◌, List, length}
+-- Plans, in the code's own enum: what a listing that is not refused is to do.
+use Rattle.std.specs.Prelude.{ℕ, ◌≤◌, ◌≡◌, List, length, Result, Ok, Err}
 use Rattle.rules.specs.Limits.{max_query_size}
 use Rattle.rules.specs.Answers as table
 use Rattle.rules.specs.Answers.{too_long_list}
 use Rattle.rules.specs.Records.{Plan, refusing, storing}
-use Rattle.rules.specs.Cases.{number_of, value_of}
-use Rattle.rules.specs.declared.answer.Answer.{Answer}
-use Rattle.rules.specs.declared.answer.Answer.TheVariants.{Done, TooLong, NotUtf8, NoRoom, NoPart, NoMode, OtherLength}
+use Rattle.rules.specs.Cases.{Answer, refusal_number, refusal_value}
+use Rattle.rules.specs.declared.refusal.Refusal.{Refusal}
+use Rattle.rules.specs.declared.refusal.Refusal.TheVariants.{TooLong, NotUtf8, NoRoom, Beyond, NoPart, NoMode, OtherLength, Malformed, NoVersion}
 use Rattle.lists.specs.declared.listing.Plan.{Plan as CodePlan}
-use Rattle.lists.specs.declared.listing.Plan.TheVariants.{Refused, TooLong as TwoTokens, List as Listing}
+use Rattle.lists.specs.declared.listing.Plan.TheVariants.{TooLong as TwoTokens, List as Listing}
 use Rattle.lists.specs.Choices.{chosen}
 
-abbrev pub plan_of : CodePlan → List ℕ → Plan
-plan_of (Refused answer) text = refusing (number_of answer) (value_of answer)
-plan_of TwoTokens text = storing too_long_list table.TooLong
-plan_of (Listing choice) text = storing (chosen choice text 0) table.Done
+abbrev pub plan_of : Result CodePlan Refusal → List ℕ → Plan
+plan_of (Err refusal) text = refusing (refusal_number refusal) (refusal_value refusal)
+plan_of (Ok TwoTokens) text = storing too_long_list table.TooLong
+plan_of (Ok (Listing choice)) text = storing (chosen choice text 0) table.Done
 
 -- How many tokens are stored where this is answered.
 abbrev pub stored_by : Answer → ℕ
-stored_by (Done n) = n
-stored_by (TooLong n) = n
-stored_by (NotUtf8 n) = 0
-stored_by (NoRoom n) = 0
-stored_by NoPart = 0
-stored_by NoMode = 0
-stored_by OtherLength = 0
+stored_by (Ok n) = n
+stored_by (Err (TooLong n)) = n
+stored_by (Err (NotUtf8 n)) = 0
+stored_by (Err (NoRoom n)) = 0
+stored_by (Err Beyond) = 0
+stored_by (Err NoPart) = 0
+stored_by (Err NoMode) = 0
+stored_by (Err OtherLength) = 0
+stored_by (Err Malformed) = 0
+stored_by (Err NoVersion) = 0
 
 -- A refusal stores nothing; a choice is of this text, which is not too long.
-abbrev pub Follows : CodePlan → List ℕ → Type 0
-Follows (Refused answer) text = stored_by answer ≡ 0
-Follows TwoTokens text = Unit
-Follows (Listing choice) text = (length text ≤ max_query_size) × (choice.position ≤ length text)
+abbrev pub Follows : Result CodePlan Refusal → List ℕ → Type 0
+Follows (Err refusal) text = stored_by (Err refusal) ≡ 0
+Follows (Ok TwoTokens) text = Unit
+Follows (Ok (Listing choice)) text = (length text ≤ max_query_size) × (choice.position ≤ length text)
 
-abbrev pub Planned : CodePlan → List ℕ → Plan → Type 0
+abbrev pub Planned : Result CodePlan Refusal → List ℕ → Plan → Type 0
 Planned plan text is = (plan_of plan text ≡ is) × Follows plan text

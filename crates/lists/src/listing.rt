@@ -14,7 +14,7 @@ use crate::packed::put_token;
 use ahead::{LOOK_AFTER, look_ahead, wasted_by};
 use edges::{find, is_long, leads, plain, read, taken};
 use lexer::syntax_kind::SyntaxKind;
-use rules::answer::Answer;
+use rules::refusal::Refusal;
 use rules::{max_query_size, token_bytes};
 use utf8::valid_length;
 
@@ -71,10 +71,9 @@ pub struct Choice {
     pub drop_comment: bool,
 }
 
-// What a listing is to do, as far as the room does not decide it.
+// What a listing that is not refused is to do, as far as the room does not decide it.
 #[derive(Clone, Copy)]
 pub enum Plan {
-    Refused(Answer),
     // The list that `tokenize` gives of a text that is too long.
     TooLong,
     // Tokens of the text, which is not too long.
@@ -271,62 +270,61 @@ fn fill(text: &[u8], choice: Choice, list: &mut [u8]) -> usize
 }
 
 // Stores the list, unless the room is too small.
-fn store_chosen(text: &[u8], choice: Choice, list: &mut [u8]) -> Answer
+fn store_chosen(text: &[u8], choice: Choice, list: &mut [u8]) -> Result<usize, Refusal>
     requires { (length text.now ≤ max_query_size) × (choice.position ≤ length text.now) }
     ensures { written result list.new ≡ stored (chosen choice text.now 0) Done list.old }
 {
     let room = list.len() / token_bytes();
     let tokens = needed(text, choice, room);
     if room < tokens {
-        return Answer::NoRoom(tokens);
+        return Err(Refusal::NoRoom(tokens));
     }
-    Answer::Done(fill(text, choice, list))
+    Ok(fill(text, choice, list))
 }
 
 // The list that `tokenize` gives of a text that is too long.
-fn store_too_long(list: &mut [u8]) -> Answer
+fn store_too_long(list: &mut [u8]) -> Result<usize, Refusal>
     ensures { written result list.new ≡ stored too_long_list TooLong list.old }
 {
     if list.len() / token_bytes() < 2 {
-        return Answer::NoRoom(2);
+        return Err(Refusal::NoRoom(2));
     }
     let at = put_token(list, 0, SyntaxKind::ErrorMaxQuerySizeExceeded, 0, 0);
     put_token(list, at, SyntaxKind::EndOfStream, 0, 0);
-    Answer::TooLong(2)
+    Err(Refusal::TooLong(2))
 }
 
-fn store(text: &[u8], plan: Plan, list: &mut [u8]) -> Answer
-    requires { Follows plan text.now }
-    ensures { written result list.new ≡ packed_by (plan_of plan text.now) list.old }
+fn store(text: &[u8], plan: Plan, list: &mut [u8]) -> Result<usize, Refusal>
+    requires { Follows (Ok plan) text.now }
+    ensures { written result list.new ≡ packed_by (plan_of (Ok plan) text.now) list.old }
 {
     match plan {
-        Plan::Refused(answer) => answer,
         Plan::TooLong => store_too_long(list),
         Plan::List(choice) => store_chosen(text, choice, list),
     }
 }
 
 // The choice, of a text that is not too long, unless the text is not valid.
-fn plan_chosen(text: &[u8], choice: Choice) -> Plan
+fn plan_chosen(text: &[u8], choice: Choice) -> Result<Plan, Refusal>
     requires { (length text.now ≤ max_query_size) × (choice.position ≤ length text.now) }
     ensures { Planned result text.now (chosen_plan choice text.now) }
 {
     let valid = valid_length(text);
     if valid != text.len() {
-        return Plan::Refused(Answer::NotUtf8(valid));
+        return Err(Refusal::NotUtf8(valid));
     }
-    Plan::List(choice)
+    Ok(Plan::List(choice))
 }
 
 // The whole listing. Lean drops white space and comments.
-pub fn plan_whole(settings: Settings, text: &[u8]) -> Plan
+pub fn plan_whole(settings: Settings, text: &[u8]) -> Result<Plan, Refusal>
     ensures { Planned result text.now (whole_plan settings.mode text.now) }
 {
     if settings.mode > Settings::LEAN {
-        return Plan::Refused(Answer::NoMode);
+        return Err(Refusal::NoMode);
     }
     if text.len() > max_query_size() {
-        return Plan::TooLong;
+        return Ok(Plan::TooLong);
     }
     let lean = settings.mode == Settings::LEAN;
     let choice = Choice {
@@ -338,39 +336,38 @@ pub fn plan_whole(settings: Settings, text: &[u8]) -> Plan
 }
 
 // The tokens that start before the position. Lean drops white space and keeps comments.
-pub fn plan_up_to(settings: Settings, text: &[u8]) -> Plan
+pub fn plan_up_to(settings: Settings, text: &[u8]) -> Result<Plan, Refusal>
     ensures { Planned result text.now (up_to_plan settings.mode settings.position text.now) }
 {
     if settings.mode > Settings::LEAN {
-        return Plan::Refused(Answer::NoMode);
+        return Err(Refusal::NoMode);
     }
     if text.len() > max_query_size() {
-        return Plan::Refused(Answer::TooLong(0));
+        return Err(Refusal::TooLong(0));
     }
     let lean = settings.mode == Settings::LEAN;
-    let position = if settings.position < text.len() {
-        settings.position
-    } else {
-        text.len()
-    };
     let choice = Choice {
-        position,
+        position: usize::min(settings.position, text.len()),
         drop_whitespace: lean,
         drop_comment: false,
     };
     plan_chosen(text, choice)
 }
 
-pub fn tokenize(settings: Settings, text: &[u8], list: &mut [u8]) -> Answer
+pub fn tokenize(settings: Settings, text: &[u8], list: &mut [u8]) -> Result<usize, Refusal>
     ensures { written result list.new ≡ listing settings.mode text.now list.old }
 {
-    let plan = plan_whole(settings, text);
+    let plan = plan_whole(settings, text)?;
     store(text, plan, list)
 }
 
-pub fn tokenize_up_to_position(settings: Settings, text: &[u8], list: &mut [u8]) -> Answer
+pub fn tokenize_up_to_position(
+    settings: Settings,
+    text: &[u8],
+    list: &mut [u8],
+) -> Result<usize, Refusal>
     ensures { written result list.new ≡ listing_up_to settings.mode settings.position text.now list.old }
 {
-    let plan = plan_up_to(settings, text);
+    let plan = plan_up_to(settings, text)?;
     store(text, plan, list)
 }

@@ -1,26 +1,26 @@
-// The reader: a file's packed list in lent bytes, and its text, which is the file's front. For the text one function gives number and value, and another the part itself.
+// The reader: a file's packed list in lent bytes, and its text, which is the file's front.
 ghost use Rattle.std.specs.Prelude.{◌≡◌, ◌+◌, ◌*◌, ◌≤◌, length, drop};
 ghost use Rattle.rules.specs.Limits.{max_query_size, token_bytes};
 ghost use Rattle.rules.specs.Listing.{pack};
 ghost use Rattle.rules.specs.Answers.{filled};
-ghost use Rattle.rules.specs.Saved.{end_bytes, record_bytes, trailer_bytes, offset_in, tokens_in, readable, opening, loading, saved_text};
-ghost use Rattle.saved.specs.Answered.{verdict_of, loaded};
+ghost use Rattle.rules.specs.Cases.{part};
+ghost use Rattle.rules.specs.Saved.{end_bytes, record_bytes, trailer_bytes, offset_in, tokens_in, readable, loading, saved_text};
+ghost use Rattle.saved.specs.Answered.{loaded};
 
 use crate::checks::records_fit;
 use crate::layout::{
     COUNT_AT, FIRST_ZERO_AT, FLAG_AT, RECORD_BYTES, SECOND_ZERO_AT, TRAILER_BYTES, VERSION,
     VERSION_AT, get_record,
 };
-use crate::{MALFORMED, NO_ROOM, NO_VERSION, NOT_UTF8, TOO_LONG, Verdict, answer};
 use lists::packed::{get_u32, put_token, wide};
+use rules::refusal::Refusal;
 use rules::{max_query_size, token_bytes};
 use utf8::valid_length;
 
-// A list that is read: document 02's number, a value, and the flag.
-#[derive(Clone, Copy)]
+// A list that is read: how many tokens are stored, and the file's flag.
+#[derive(Clone, Copy, PartialEq, Eq, Debug)]
 pub struct Loaded {
-    pub number: u32,
-    pub value: usize,
+    pub tokens: usize,
     pub flag: u32,
 }
 
@@ -44,41 +44,30 @@ fn is_readable(file: &[u8]) -> bool
     records_fit(file, from, records, offset, wide(file[at + FLAG_AT]))
 }
 
-// Number and value of a file's text, by every test but that for room.
-pub fn saved_text_answer(file: &[u8]) -> Verdict
-    ensures { result ≡ verdict_of (opening file.now) }
+// The text of a file.
+pub fn saved_text<'a>(file: &'a [u8]) -> Result<&'a [u8], Refusal>
+    ensures { part result (λ bytes. bytes.now) ≡ saved_text file.now }
 {
     if file.len() < TRAILER_BYTES {
-        return answer(MALFORMED, 0);
+        return Err(Refusal::Malformed);
     }
     let at = file.len() - TRAILER_BYTES;
     if file[at + VERSION_AT] != VERSION {
-        return answer(NO_VERSION, 0);
+        return Err(Refusal::NoVersion);
     }
     let size = get_u32(file, at) as usize;
     if size > max_query_size() {
-        return answer(TOO_LONG, 0);
+        return Err(Refusal::TooLong(0));
     }
     if !is_readable(file) {
-        return answer(MALFORMED, 0);
+        return Err(Refusal::Malformed);
     }
-    let valid = valid_length(&file[0..size]);
+    let text = &file[..size];
+    let valid = valid_length(text);
     if valid != size {
-        return answer(NOT_UTF8, valid);
+        return Err(Refusal::NotUtf8(valid));
     }
-    answer(0, size)
-}
-
-// The text of a file; empty where it is refused.
-pub fn saved_text<'a>(file: &'a [u8]) -> &'a [u8]
-    ensures { result.now ≡ (saved_text file.now).bytes }
-{
-    let answer = saved_text_answer(file);
-    if answer.number != 0 {
-        return &file[0..0];
-    }
-    let size = answer.value;
-    &file[0..size]
+    Ok(text)
 }
 
 // The packed list of so many records from a place in a file on.
@@ -99,30 +88,18 @@ fn put_tokens(file: &[u8], from: usize, records: usize, list: &mut [u8])
     }
 }
 
-pub fn load(file: &[u8], list: &mut [u8]) -> Loaded
+pub fn load(file: &[u8], list: &mut [u8]) -> Result<Loaded, Refusal>
     ensures { loaded result list.new ≡ loading file.now list.old }
 {
-    let text = saved_text_answer(file);
-    if text.number != 0 {
-        return Loaded {
-            number: text.number,
-            value: text.value,
-            flag: 0,
-        };
-    }
+    let text = saved_text(file)?;
     let at = file.len() - TRAILER_BYTES;
     let records = get_u32(file, at + COUNT_AT) as usize;
     if list.len() / token_bytes() < records {
-        return Loaded {
-            number: NO_ROOM,
-            value: records,
-            flag: 0,
-        };
+        return Err(Refusal::NoRoom(records));
     }
-    put_tokens(file, text.value, records, list);
-    Loaded {
-        number: 0,
-        value: records,
+    put_tokens(file, text.len(), records, list);
+    Ok(Loaded {
+        tokens: records,
         flag: wide(file[at + FLAG_AT]),
-    }
+    })
 }

@@ -5,12 +5,12 @@ ghost use Rattle.rules.specs.Limits.{max_query_size, token_bytes};
 ghost use Rattle.rules.specs.Listing.{room, unpack};
 ghost use Rattle.rules.specs.Answers.{filled};
 ghost use Rattle.rules.specs.Saved.{end_bytes, record_bytes, records_of, trailer_bytes, file_of, tokens_of, writable, saving};
-ghost use Rattle.saved.specs.Answered.{written};
+ghost use Rattle.rules.specs.Cases.{written};
 
 use crate::checks::list_fits;
 use crate::layout::{RECORD_BYTES, TRAILER_BYTES, put_record, put_trailer};
-use crate::{MALFORMED, NO_ROOM, NOT_UTF8, TOO_LONG, Verdict, answer};
 use lists::packed::get_token;
+use rules::refusal::Refusal;
 use rules::{max_query_size, token_bytes};
 use runs::copy_front;
 use utf8::valid_length;
@@ -54,24 +54,24 @@ fn put_file(text: &[u8], list: &[u8], flag: u32, file: &mut [u8])
     put_trailer(file, at, size as u32, tokens as u32, flag);
 }
 
-pub fn save(text: &[u8], list: &[u8], flag: u32, file: &mut [u8]) -> Verdict
+pub fn save(text: &[u8], list: &[u8], flag: u32, file: &mut [u8]) -> Result<usize, Refusal>
     ensures { written result file.new ≡ saving text.now list.now flag file.old }
 {
     let size = text.len();
     if size > max_query_size() {
-        return answer(TOO_LONG, 0);
+        return Err(Refusal::TooLong(0));
     }
     if !is_writable(text, list, flag) {
-        return answer(MALFORMED, 0);
+        return Err(Refusal::Malformed);
     }
     let valid = valid_length(text);
     if valid != size {
-        return answer(NOT_UTF8, valid);
+        return Err(Refusal::NotUtf8(valid));
     }
     let bytes = size + list.len() / token_bytes() * RECORD_BYTES + TRAILER_BYTES;
     if file.len() < bytes {
-        return answer(NO_ROOM, bytes);
+        return Err(Refusal::NoRoom(bytes));
     }
     put_file(text, list, flag, file);
-    answer(0, bytes)
+    Ok(bytes)
 }
