@@ -1,8 +1,9 @@
 // A planned list token by token, for what is not packed.
-ghost use Rattle.std.specs.Prelude.{◌≡◌, List, ℕ, ◌≤◌, ◌<◌, length, drop};
+ghost use Rattle.std.specs.Prelude.{◌≡◌, cond, ltb, List, ℕ, ◌≤◌, ◌<◌, length, drop};
 ghost use Rattle.rules.specs.Limits.{max_query_size};
 ghost use Rattle.rules.specs.Answers.{too_long_list};
 ghost use Rattle.rules.specs.Records.{outcome};
+ghost use Rattle.rules.specs.declared.refusal.Refusal.TheVariants.{NoRoom};
 ghost use Rattle.ahead.specs.Marks.{look_after};
 ghost use Rattle.lists.specs.declared.picks.Picking.{Picking};
 ghost use Rattle.lists.specs.Choices.{chosen};
@@ -25,6 +26,16 @@ pub struct Picking {
     pub wasted: usize,
 }
 
+// Whether there is room for so many tokens.
+fn check_room(tokens: usize, room: usize) -> Result<(), Refusal>
+    ensures { result ≡ cond (ltb room tokens) (Err (NoRoom tokens)) (Ok tt) }
+{
+    if room < tokens {
+        return Err(Refusal::NoRoom(tokens));
+    }
+    Ok(())
+}
+
 // The same plan where there is room for its list. A text is lexed here only where the room is not a token a byte.
 fn fit(text: &[u8], plan: Plan, room: usize) -> Result<Plan, Refusal>
     requires { Follows (Ok plan) text.now }
@@ -34,9 +45,7 @@ fn fit(text: &[u8], plan: Plan, room: usize) -> Result<Plan, Refusal>
         Plan::TooLong => 2,
         Plan::List(choice) => needed(text, choice, room),
     };
-    if room < tokens {
-        return Err(Refusal::NoRoom(tokens));
-    }
+    check_room(tokens, room)?;
     Ok(plan)
 }
 
@@ -79,13 +88,12 @@ pub fn answer_in(text: &[u8], plan: Result<Plan, Refusal>, room: usize) -> Resul
     ensures { Answered result (outcome (plan_of plan text.now) room) }
 {
     let plan = plan?;
-    let tokens = match plan {
-        Plan::TooLong => 2,
-        Plan::List(choice) => count(text, choice),
+    let tokens = if let Plan::List(choice) = plan {
+        count(text, choice)
+    } else {
+        2
     };
-    if room < tokens {
-        return Err(Refusal::NoRoom(tokens));
-    }
+    check_room(tokens, room)?;
     answer_of(plan, tokens)
 }
 
@@ -125,12 +133,13 @@ fn read_on(text: &[u8], at: &mut Picking, lone: &mut [u64]) -> Token
     look_on(text, at, lone);
     let start = at.cursor;
     let lexed = read(text, start, at.until, lone);
-    at.cursor = end_of(lexed);
+    let end = end_of(lexed);
+    at.cursor = end;
     at.wasted += wasted_by(lexed, text.len());
     Token {
         kind: kind_of(lexed) % 64,
         start: start as u32,
-        end: at.cursor as u32,
+        end: end as u32,
     }
 }
 
