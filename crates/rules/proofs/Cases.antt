@@ -37,7 +37,7 @@ back NoVersion = refl
 one_refusal : (r q : Refusal) → refusal_number r ≡ refusal_number q → refusal_value r ≡ refusal_value q → r ≡ q
 one_refusal r q n v = sym (back r) ∙ ap₂ refusal_of n v ∙ back q
 
-not_done : (r : Refusal) → refusal_number r ≡ 0 → ⊥
+pub not_done : (r : Refusal) → refusal_number r ≡ 0 → ⊥
 not_done (TooLong n) e = omega (arith, e)
 not_done (NotUtf8 n) e = omega (arith, e)
 not_done (NoRoom n) e = omega (arith, e)

@@ -1,17 +1,21 @@
 -- What writer and reader answer, test by test in their order. Assumes nothing.
 use Prim.Native.Nat.{ℕ, ◌+◌, ◌*◌, ◌%◌, ◌≤◌, ◌<◌}
 use native.Mathlib.Omega.{arith}
-use mathlib.Core.Path.{◌≡◌, ap}
+use mathlib.Core.Path.{◌≡◌, sym, ap, ◌∙◌}
 use mathlib.Core.List.{List, []}
 use mathlib.Core.Bool.{true, false}
 use lib.ListN.{length, get_or}
 use lib.Dec.{eqb}
+use lib.Seq.{length-take-le}
 use borrow.Author.Tests.{lt-ltb, le-ltb, eq-eqb, ne_eqb}
 use Rattle.rules.specs.Utf8.{valid_length}
 use Rattle.rules.specs.Limits.{max_query_size, token_bytes}
 use Rattle.rules.specs.Listing.{room}
-use Rattle.rules.specs.Answers.{Done, TooLong, NotUtf8, NoRoom, refused, filled}
-use Rattle.rules.specs.Saved.{Malformed, NoVersion, version, end_bytes, record_bytes, trailer_bytes, file_of, trailer_at, offset_in, count_in, flag_in, version_in, zeros_in, text_in, list_in, accepted, tokens_of, writable, saving, readable, Verdict, verdict, opening, opens, refused_load, loading, saved_text}
+use Rattle.rules.specs.Answers.{Done, TooLong, NotUtf8, NoRoom, refused, filled, Part}
+use Rattle.rules.specs.Cases.{refusal_number, refusal_value}
+use Rattle.rules.specs.declared.refusal.Refusal.{Refusal}
+use Rattle.rules.proofs.Cases.{not_done}
+use Rattle.rules.specs.Saved.{Malformed, NoVersion, version, end_bytes, record_bytes, trailer_bytes, file_of, trailer_at, offset_in, count_in, flag_in, version_in, zeros_in, text_in, list_in, accepted, tokens_of, writable, saving, readable, Verdict, verdict, opening, refused_load, loading, saved_text}
 use Rattle.rules.proofs.Tests.{eqb-true, and_left, and_right}
 use Rattle.rules.proofs.Saved.{Opens, opens_has, opens_of}
 
@@ -102,18 +106,33 @@ module _ (file list : List ℕ) where
   unfolding loading
   loading-refused h = rw (ne_eqb (opening file).number Done h)
 
-  pub loading_no_room : opens file ≡ true → room list < count_in file → loading file list ≡ refused_load NoRoom (count_in file) list
+  pub loading_no_room : Opens file → room list < count_in file → loading file list ≡ refused_load NoRoom (count_in file) list
   unfolding loading
-  loading_no_room o r = rw (o, lt-ltb (room list) (count_in file) r)
+  loading_no_room o r = rw (opens_of file o, lt-ltb (room list) (count_in file) r)
 
 -- the text of a file that is refused, and of one that is not
 module _ (file : List ℕ) where
-  pub text-refused : ((opening file).number ≡ Done → ⊥) → (saved_text file).bytes ≡ []
+  pub text-refused : (n v : ℕ) → (n ≡ Done → ⊥) → opening file ≡ verdict n v → saved_text file ≡ record { number = n; value = v; bytes = [] }
   unfolding saved_text
-  text-refused h = rw (ne_eqb (opening file).number Done h)
+  text-refused n v h e = rw (e, ne_eqb n Done h)
 
-  pub opened : (opening file).number ≡ Done → Opens file
-  opened e = opens_has file (eq-eqb (opening file).number Done e)
+  pub text_given : opening file ≡ verdict Done (offset_in file) → saved_text file ≡ record { number = Done; value = length (text_in file); bytes = text_in file }
+  unfolding saved_text
+  text_given e =
+      let o = opens_has file (eq-eqb (opening file).number Done (ap (λ (v : Verdict). v.number) e)) in
+      let n : length (text_in file) ≡ offset_in file = length-take-le (offset_in file) file (omega (arith, o.sizes)) in
+      rw (e, n)
 
-  pub text-inside : (e : (opening file).number ≡ Done) → ((opening file).value ≡ offset_in file) × (offset_in file ≤ length file)
-  text-inside e = let o = opened e in (ap (λ (v : Verdict). v.value) (opens_of file o), omega (arith, o.sizes))
+  pub text_opens : (n : ℕ) (b : List ℕ) → record { number = Done; value = n; bytes = b } ≡ saved_text file → Opens file × (n ≡ offset_in file)
+  unfolding saved_text
+  text_opens n b e =
+      let o = opens_has file (eq-eqb (opening file).number Done (sym (ap (λ (p : Part). p.number) e))) in
+      (o, ap (λ (p : Part). p.value) e ∙ ap (λ (v : Verdict). v.value) (opens_of file o))
+
+  -- and a list is refused as the text is
+  pub list-refused : (r : Refusal) (list : List ℕ) → record { number = refusal_number r; value = refusal_value r; bytes = [] } ≡ saved_text file
+      → loading file list ≡ refused_load (refusal_number r) (refusal_value r) list
+  unfolding saved_text
+  list-refused r list e =
+      let n = ap (λ (p : Part). p.number) e in
+      loading-refused file list (λ d. not_done r (n ∙ d)) ∙ (λ i. refused_load (sym n i) (sym (ap (λ (p : Part). p.value) e) i) list)
