@@ -11,7 +11,7 @@ ghost use Rattle.masking.specs.Walks.{MaskedOn};
 use ahead::{LOOK_AFTER, look_ahead, wasted_by};
 use edges::{find, is_long, leads, plain, read, taken};
 use lexer::syntax_kind::SyntaxKind;
-use rules::answer::Answer;
+use rules::refusal::Refusal;
 use rules::{mask_byte, max_query_size};
 use runs::copy_front;
 use spans::parts::hides;
@@ -163,21 +163,21 @@ fn mask_tokens(text: &[u8], copy: &mut [u8])
 }
 
 // The masked copy of a text. It is as long as the text.
-pub fn mask(text: &[u8], copy: &mut [u8]) -> Answer
+pub fn mask(text: &[u8], copy: &mut [u8]) -> Result<usize, Refusal>
     ensures { written result copy.new ≡ masked_copy text.now copy.old }
 {
     let size = text.len();
     if size > max_query_size() {
-        return Answer::TooLong(0);
+        return Err(Refusal::TooLong(0));
     }
     let valid = valid_length(text);
     if valid != size {
-        return Answer::NotUtf8(valid);
+        return Err(Refusal::NotUtf8(valid));
     }
     if copy.len() < size {
-        return Answer::NoRoom(size);
+        return Err(Refusal::NoRoom(size));
     }
     copy_front(text, copy);
     mask_tokens(text, copy);
-    Answer::Done(size)
+    Ok(size)
 }

@@ -12,12 +12,11 @@ use ahead::{LOOK_AFTER, look_ahead, wasted_by};
 use edges::{find, is_long, leads, plain, read, taken};
 use lexer::syntax_kind::SyntaxKind;
 use rules::max_query_size;
+use rules::refusal::Refusal;
 
-// What the first statement is: document 01's number, the tokens read, its delimiter among them, the bytes that stand before the delimiter, and
-// where the delimiter ends.
-#[derive(Clone, Copy)]
+// What the first statement is: the tokens read, its delimiter among them, the bytes that stand before the delimiter, and where the delimiter ends.
+#[derive(Clone, Copy, PartialEq, Eq, Debug)]
 pub struct First {
-    pub number: u32,
     pub tokens: usize,
     pub bytes: usize,
     pub end: usize,
@@ -98,17 +97,12 @@ fn read_more(text: &[u8], from: Reading) -> Reading
 }
 
 // The text is not tested for UTF-8.
-pub fn first_statement(text: &[u8]) -> First
-    ensures { result ≡ first (first_statement text.now) }
+pub fn first_statement(text: &[u8]) -> Result<First, Refusal>
+    ensures { first result ≡ first_statement text.now }
 {
     let size = text.len();
     if size > max_query_size() {
-        return First {
-            number: 1,
-            tokens: 0,
-            bytes: 0,
-            end: 0,
-        };
+        return Err(Refusal::TooLong(0));
     }
     let none = Reading {
         cursor: 0,
@@ -120,10 +114,9 @@ pub fn first_statement(text: &[u8]) -> First
     while at.cursor < at.bytes {
         at = read_more(text, at);
     }
-    First {
-        number: 0,
+    Ok(First {
         tokens: at.tokens,
         bytes: at.bytes,
         end: at.cursor,
-    }
+    })
 }
