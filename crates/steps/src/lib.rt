@@ -2,56 +2,28 @@
 #![tactic(auto)]
 
 ghost use Rattle.std.specs.Prelude.{◌≡◌};
-ghost use Rattle.rules.specs.Answers.{refused_step, step};
+ghost use Rattle.rules.specs.Answers.{step};
 ghost use Rattle.steps.specs.Stepped.{stepped};
 
 use lexer::token::{Token, end_of, kind_of};
 use lexer::tokenizer::next_token;
+use rules::max_query_size;
+use rules::refusal::Refusal;
 
-// What a step gives: document 01's number and value, the token, and the cursor to go on from.
-#[derive(Clone, Copy)]
-pub struct Stepped {
-    pub number: u32,
-    pub value: usize,
-    pub token: Token,
-    pub cursor: usize,
-}
-
-fn refused_step(number: u32, cursor: usize) -> Stepped
-    ensures { result ≡ stepped (refused_step number cursor) }
+// The token at a cursor, whose end is the next cursor. The text is not tested for UTF-8.
+pub fn step(text: &[u8], cursor: usize) -> Result<Token, Refusal>
+    ensures { stepped result cursor ≡ step text.now cursor }
 {
-    Stepped {
-        number,
-        value: 0,
-        token: Token {
-            kind: 0,
-            start: 0,
-            end: 0,
-        },
-        cursor,
-    }
-}
-
-// The text is not tested for UTF-8.
-pub fn step(text: &[u8], cursor: usize) -> Stepped
-    ensures { result ≡ stepped (step text.now cursor) }
-{
-    if text.len() > rules::max_query_size() {
-        return refused_step(1, cursor);
+    if text.len() > max_query_size() {
+        return Err(Refusal::TooLong(0));
     }
     if cursor > text.len() {
-        return refused_step(4, cursor);
+        return Err(Refusal::Beyond);
     }
     let l = next_token(&text[0..], cursor);
-    let end = end_of(l);
-    Stepped {
-        number: 0,
-        value: end,
-        token: Token {
-            kind: kind_of(l),
-            start: cursor as u32,
-            end: end as u32,
-        },
-        cursor: end,
-    }
+    Ok(Token {
+        kind: kind_of(l),
+        start: cursor as u32,
+        end: end_of(l) as u32,
+    })
 }
