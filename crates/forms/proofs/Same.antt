@@ -7,7 +7,7 @@ use lib.ListN.{length}
 use Rattle.rules.specs.Listing.{pack, room}
 use Rattle.rules.specs.Answers.{Written, filled, listing, listing_up_to}
 use Rattle.rules.specs.Records.{Outcome, whole_plan, up_to_plan, outcome}
-use Rattle.rules.specs.declared.answer.Answer.{Answer}
+use Rattle.rules.specs.Cases.{Answer}
 use Rattle.rules.proofs.Plans.{whole_planned, up_to_planned}
 use Rattle.rules.proofs.Cases.{one-case}
 use Rattle.lexer.specs.declared.token.Token.{Token}

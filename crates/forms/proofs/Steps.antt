@@ -11,17 +11,19 @@ use borrow.Author.Tests.{ltb-false, le-leb, lt-leb}
 use lib.ListN.{length, drop}
 use lib.Seq.{sets}
 use Rattle.rules.specs.Limits.{max_query_size, token_bytes}
-use Rattle.rules.specs.Tokens.{Token, tokens, tokens_from, token_at}
+use Rattle.rules.specs.Tokens.{Token, token, tokens, tokens_from, token_at}
+use Rattle.std.specs.Prelude.{Result, Ok, Err}
+use Rattle.rules.specs.declared.refusal.Refusal.{Refusal}
+use Rattle.rules.proofs.Cases.{not_done}
+use Rattle.lexer.specs.declared.token.Token.{Token as CodeToken}
 use Rattle.rules.specs.Listing.{full, whole_list, pack_token, pack, room}
 use Rattle.rules.specs.Answers as table
-use Rattle.rules.specs.Answers.{too_long, filled, step}
+use Rattle.rules.specs.Answers.{too_long, filled, step, Stepped}
 use Rattle.rules.specs.Records.{refusing, storing, steps_plan, outcome, packed_by}
-use Rattle.rules.specs.Cases.{written}
-use Rattle.rules.specs.declared.answer.Answer.{Answer}
+use Rattle.rules.specs.Cases.{Answer, written}
 use Rattle.rules.proofs.Edges.{from_start, from_end, from_step, step_fits}
 use Rattle.rules.proofs.Stepping.{step_done}
 use Rattle.steps.specs.Stepped.{stepped}
-use Rattle.steps.specs.declared.Stepped.{Stepped}
 use Rattle.lists.specs.Choices.{chosen}
 use Rattle.lists.specs.Plans.{stored_by}
 use Rattle.lists.specs.Picks.{Answered}
@@ -97,20 +99,26 @@ module _ (s list₀ : List ℕ) (answer : Answer) (is : Answered answer (outcome
     pub turn-room : i * token_bytes + token_bytes ≤ length list
     turn-room = filled-room (tokens s) list₀ list (i * token_bytes) turn.1 (token_at s at) (tokens_from s (token_at s at).end) filled_here
 
-    module _ (found : Stepped) (e : found ≡ stepped (step s at)) where
-      done : found ≡ stepped (record { number = table.Done; value = (token_at s at).end; token = token_at s at; cursor = (token_at s at).end })
-      done = e ∙ ap stepped (step_done s at turn.0 (omega (arith, turn.2)))
+    module _ (found : Result CodeToken Refusal) (e : stepped found at ≡ step s at) where
+      done : stepped found at ≡ record { number = table.Done; value = (token_at s at).end; token = token_at s at; cursor = (token_at s at).end }
+      done = e ∙ step_done s at turn.0 (omega (arith, turn.2))
 
-      -- and with it one more is packed
-      pub turn-read : (list' : List ℕ) → list' ≡ sets list (i * token_bytes) (pack_token (record { kind = found.token.kind; start = found.token.start; end = found.token.end }))
-          → Read s list₀ (suc i) found.cursor list'
-      turn-read list' f = record {
-        within = let c = ap (λ (z : Stepped). z.cursor) done in omega (arith, c, step_fits s at turn.2);
-        held =
-            subst (λ (z : ℕ). Filled (tokens s) list₀ list' (suc i * token_bytes) (tokens_from s z)) (sym (ap (λ (z : Stepped). z.cursor) done))
-            (filled_more (tokens s) list₀ list (i * token_bytes) turn.1 (token_at s at) (tokens_from s (token_at s at).end) filled_here list' (suc i * token_bytes) (omega arith)
-            (f ∙ ap (λ (z : Stepped). sets list (i * token_bytes) (pack_token (record { kind = z.token.kind; start = z.token.start; end = z.token.end }))) done));
-      }
+      -- no step is refused
+      pub turn_ok : (r : Refusal) → found ≡ Err r → ⊥
+      turn_ok r q = not_done r (sym (ap (λ (x : Result CodeToken Refusal). (stepped x at).number) q) ∙ ap (λ (z : Stepped). z.number) done)
+
+      -- and with its token one more is packed
+      pub turn-read : (t : CodeToken) → found ≡ Ok t → (list' : List ℕ) → list' ≡ sets list (i * token_bytes) (pack_token (token t.kind t.start t.end)) → Read s list₀ (suc i) t.end list'
+      turn-read t q list' f =
+          let d = sym (ap (λ (x : Result CodeToken Refusal). stepped x at) q) ∙ done in
+          let end = ap (λ (z : Stepped). z.cursor) d in
+          record {
+            within = omega (arith, end, step_fits s at turn.2);
+            held =
+                subst (λ (z : ℕ). Filled (tokens s) list₀ list' (suc i * token_bytes) (tokens_from s z)) (sym end)
+                (filled_more (tokens s) list₀ list (i * token_bytes) turn.1 (token_at s at) (tokens_from s (token_at s at).end) filled_here list' (suc i * token_bytes) (omega arith)
+                (f ∙ ap (λ (z : Stepped). sets list (i * token_bytes) (pack_token z.token)) d));
+          }
 
   -- when the turns are done, the list is what reading gives
   pub read_done : (at : ℕ) (list : List ℕ) → Read s list₀ (stored_by answer) at list → written answer list ≡ packed_by (steps_plan s) list₀

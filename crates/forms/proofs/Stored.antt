@@ -6,17 +6,17 @@ use Prim.Native.Nat.{ℕ, zero, suc, ◌+◌, ◌<◌, ◌≤◌}
 use native.Mathlib.Nat.{not-suc-le-zero, le_of_suc-le-suc}
 use native.Mathlib.Omega.{arith}
 use native.Mathlib.Numerals.{add-one}
-use native.Mathlib.Decide.{dec_lt}
-use mathlib.Core.Bool.{Bool, true, false, cond, true≢false}
 use mathlib.Core.List.{List, [], ◌∷◌, ◌++◌}
 use lib.ListN.{length, get_or, set, drop, length-drop}
+use Rattle.std.specs.Prelude.{Option, Some, None, Result}
+use Rattle.rules.specs.declared.refusal.Refusal.{Refusal}
 use Rattle.rules.specs.Tokens.{Token as Tok}
 use Rattle.rules.specs.Records.{Outcome, outcome}
 use Rattle.lexer.specs.declared.token.Token.{Token}
 use Rattle.lists.specs.declared.listing.Plan.{Plan}
 use Rattle.lists.specs.declared.picks.Picking.{Picking}
 use Rattle.lists.specs.Plans.{plan_of}
-use Rattle.lists.specs.Picks.{Fits, Ready, Picks, answer_by, records_of, records_from}
+use Rattle.lists.specs.Picks.{Fits, Ready, Picks, picked, answer_by, records_of, records_from}
 use Rattle.forms.specs.Records.{recorded, records_by}
 
 module _ {A : Type 0} where
@@ -78,7 +78,7 @@ pub record Stood (s : List ℕ) (begun : Picking) (ys : List Token) (i : ℕ) (a
   pub holds : list ≡ over i (records_from begun.plan s 0) ys
 
 -- what `begin` gave, of a list that fits the slice
-module _ (plan : Plan) (s : List ℕ) (ys : List Token) (begun : Picking) (fits : Fits begun.plan s (outcome (plan_of plan s) (length ys)) (length ys)) where
+module _ (plan : Result Plan Refusal) (s : List ℕ) (ys : List Token) (begun : Picking) (fits : Fits begun.plan s (outcome (plan_of plan s) (length ys)) (length ys)) where
   abbrev pub all : List Token
   all = records_from begun.plan s 0
 
@@ -95,35 +95,30 @@ module _ (plan : Plan) (s : List ℕ) (ys : List Token) (begun : Picking) (fits 
   reached_first lone c m = record { same_plan = refl; here = ap (records_from begun.plan s) c; ready = m }
 
   -- a turn
-  module _ (i : ℕ) (at : Picking) (lone : List ℕ) (h : Reached s begun i at lone) (r : Picking) (lone' : List ℕ) (p : Picks s at r lone' (records_from at.plan s)) where
-    left : drop i all ≡ cond r.found (r.token ∷ records_from begun.plan s r.cursor) []
-    left = sym h.here ∙ subst (λ (q : Plan). records_from q s at.cursor ≡ cond r.found (r.token ∷ records_from q s r.cursor) []) h.same_plan p.first
-
-    turn-found : i < length all → r.found ≡ true
-    turn-found l = go r.found left
-      where
-        go : (b : Bool) → drop i all ≡ cond b (r.token ∷ records_from begun.plan s r.cursor) [] → b ≡ true
-        go true e = refl
-        go false e = absurd (omega (arith, ap length e, length-drop i all))
-
-    turn_none : length all ≤ i → r.found ≡ false
-    turn_none l = go r.found left
-      where
-        go : (b : Bool) → drop i all ≡ cond b (r.token ∷ records_from begun.plan s r.cursor) [] → b ≡ false
-        go false e = refl
-        go true e = absurd (omega (arith, ap length e, length-drop i all))
-
-    next : i < length all → drop i all ≡ r.token ∷ records_from begun.plan s r.cursor
-    next l = left ∙ ap (λ (b : Bool). cond b (r.token ∷ records_from begun.plan s r.cursor) []) (turn-found l)
+  module _ (i : ℕ) (at : Picking) (lone : List ℕ) (h : Reached s begun i at lone) (r : Picking) (lone' : List ℕ) (token : Option Token) (p : Picks s at r lone' token (records_from at.plan s)) where
+    left : drop i all ≡ picked token (records_from begun.plan s r.cursor)
+    left = sym h.here ∙ subst (λ (q : Result Plan Refusal). records_from q s at.cursor ≡ picked token (records_from q s r.cursor)) h.same_plan p.first
 
     turn_plan : r.plan ≡ begun.plan
     turn_plan = p.plan ∙ h.same_plan
 
-    turn_reached : i < length all → Reached s begun (suc i) r lone'
-    turn_reached l = record { same_plan = turn_plan; here = sym (drop_next i all r.token (records_from begun.plan s r.cursor) (next l)); ready = p.ready }
+    -- that picks a token
+    module _ (t : Token) (e : token ≡ Some t) where
+      next : drop i all ≡ t ∷ records_from begun.plan s r.cursor
+      next = left ∙ ap (λ (o : Option Token). picked o (records_from begun.plan s r.cursor)) e
 
-    turn-set : i < length all → set (over i all ys) i r.token ≡ over (suc i) all ys
-    turn-set l = over_set i all ys r.token (records_from begun.plan s r.cursor) (next l)
+      turn_more : i < length all
+      turn_more = omega (arith, ap length next, length-drop i all)
+
+      turn_reached : Reached s begun (suc i) r lone'
+      turn_reached = record { same_plan = turn_plan; here = sym (drop_next i all t (records_from begun.plan s r.cursor) next); ready = p.ready }
+
+      turn-set : set (over i all ys) i t ≡ over (suc i) all ys
+      turn-set = over_set i all ys t (records_from begun.plan s r.cursor) next
+
+    -- or none
+    turn_last : token ≡ None → length all ≤ i
+    turn_last e = omega (arith, ap length (left ∙ ap (λ (o : Option Token). picked o (records_from begun.plan s r.cursor)) e), length-drop i all)
 
   -- when the turns are done, the slice is what the plan gives
   stored_done : recorded (answer_by begun.plan (length all)) (over (length all) all ys) ≡ records_by (plan_of plan s) ys
@@ -138,31 +133,21 @@ module _ (plan : Plan) (s : List ℕ) (ys : List Token) (begun : Picking) (fits 
   pub stood_first : (lone : List ℕ) → begun.cursor ≡ 0 → Ready s begun lone → Stood s begun ys 0 begun lone ys
   stood_first lone c m = record { reached = reached_first lone c m; within = omega arith; holds = sym (over_none all ys) }
 
-  module _ (i : ℕ) (at : Picking) (lone : List ℕ) (list : List Token) (h : Stood s begun ys i at lone list) (r : Picking) (lone' : List ℕ) (p : Picks s at r lone' (records_from at.plan s)) where
-    -- what was found is one more of them
-    more : r.found ≡ true → i < length all
-    more e = go (dec_lt i (length all))
-      where
-        go : Dec (i < length all) → i < length all
-        go (yes l) = l
-        go (no l) = absurd (true≢false (sym e ∙ turn_none i at lone h.reached r lone' p (omega arith)))
-
-    pub stood_more : r.found ≡ true → Stood s begun ys (i + 1) r lone' (set list i r.token)
-    stood_more e =
-        subst (λ (n : ℕ). Stood s begun ys n r lone' (set list i r.token)) (sym (add-one i))
-        (record { reached = turn_reached i at lone h.reached r lone' p (more e); within = more e; holds = ap (λ (l : List Token). set l i r.token) h.holds ∙ turn-set i at lone h.reached r lone' p (more e) })
+  module _ (i : ℕ) (at : Picking) (lone : List ℕ) (list : List Token) (h : Stood s begun ys i at lone list) (r : Picking) (lone' : List ℕ) (token : Option Token) (p : Picks s at r lone' token (records_from at.plan s)) where
+    pub stood_more : (t : Token) → token ≡ Some t → Stood s begun ys (i + 1) r lone' (set list i t)
+    stood_more t e =
+        subst (λ (n : ℕ). Stood s begun ys n r lone' (set list i t)) (sym (add-one i))
+        (record {
+          reached = turn_reached i at lone h.reached r lone' token p t e;
+          within = turn_more i at lone h.reached r lone' token p t e;
+          holds = ap (λ (l : List Token). set l i t) h.holds ∙ turn-set i at lone h.reached r lone' token p t e;
+        })
 
     -- where none is found, all are stored
-    pub stood_done : r.found ≡ false → recorded (answer_by r.plan i) list ≡ records_by (plan_of plan s) ys
+    pub stood_done : token ≡ None → recorded (answer_by r.plan i) list ≡ records_by (plan_of plan s) ys
     stood_done e =
-        ap (λ (q : Plan). recorded (answer_by q i) list) (turn_plan i at lone h.reached r lone' p)
+        let last : i ≡ length all = omega (arith, turn_last i at lone h.reached r lone' token p e, h.within) in
+        ap (λ (q : Result Plan Refusal). recorded (answer_by q i) list) (turn_plan i at lone h.reached r lone' token p)
         ∙ ap (λ (l : List Token). recorded (answer_by begun.plan i) l) h.holds
         ∙ ap (λ (n : ℕ). recorded (answer_by begun.plan n) (over n all ys)) last
         ∙ stored_done
-      where
-        last : i ≡ length all
-        last = go (dec_lt i (length all))
-          where
-            go : Dec (i < length all) → i ≡ length all
-            go (yes l) = absurd (true≢false (sym (turn-found i at lone h.reached r lone' p l) ∙ e))
-            go (no l) = let w = h.within in omega arith

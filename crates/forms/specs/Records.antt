@@ -3,8 +3,7 @@ use Rattle.std.specs.Prelude.{ℕ, List, ◌++◌, length, drop, replicate}
 use Rattle.rules.specs.Kinds.{NoToken}
 use Rattle.rules.specs.Tokens.{token}
 use Rattle.rules.specs.Records.{Plan, whole_plan, up_to_plan, outcome}
-use Rattle.rules.specs.Cases.{number_of, value_of}
-use Rattle.rules.specs.declared.answer.Answer.{Answer}
+use Rattle.rules.specs.Cases.{Answer, number_of, value_of}
 use Rattle.lexer.specs.declared.token.Token.{Token}
 use Rattle.lexer.specs.Ends.{token_of}
 use Rattle.lists.specs.Picks.{records_of}

@@ -16,9 +16,9 @@ use lexer::token::Token;
 use lists::listing::{Choice, Plan};
 use lists::packed::put_token;
 use lists::picks::{answer_in, stored_by};
-use rules::answer::Answer;
+use rules::refusal::Refusal;
 use rules::{max_query_size, token_bytes};
-use steps::{Stepped, step};
+use steps::step;
 
 #[derive(Clone, Copy)]
 pub struct Reader<'a> {
@@ -26,80 +26,78 @@ pub struct Reader<'a> {
     pub at: usize,
 }
 
-// At the text's start.
-pub fn open<'a>(text: &'a [u8]) -> Reader<'a>
-    ensures { (result.text ≡ text.entry) × (result.at ≡ 0) }
-{
-    Reader { text, at: 0 }
-}
+impl<'a> Reader<'a> {
+    // At the text's start.
+    pub fn open(text: &'a [u8]) -> Self
+        ensures { (result.text ≡ text.entry) × (result.at ≡ 0) }
+    {
+        Self { text, at: 0 }
+    }
 
-// What a step from the reader's offset gives. The reader stays where it is: `moved` to the step's cursor goes on.
-pub fn next<'a>(reader: Reader<'a>) -> Stepped
-    ensures { result ≡ stepped (step reader.entry.text.now reader.entry.at) }
-{
-    step(reader.text, reader.at)
-}
+    // What a step from the reader's offset gives. The reader stays where it is: `moved` to the token's end goes on.
+    pub fn next(self) -> Result<Token, Refusal>
+        ensures { stepped result self.entry.at ≡ step self.entry.text.now self.entry.at }
+    {
+        step(self.text, self.at)
+    }
 
-pub fn at_end<'a>(reader: Reader<'a>) -> bool
-    ensures { result ≡ at_end reader.entry.text.now reader.entry.at }
-{
-    reader.at >= reader.text.len()
-}
+    pub fn at_end(self) -> bool
+        ensures { result ≡ at_end self.entry.text.now self.entry.at }
+    {
+        self.at >= self.text.len()
+    }
 
-// The same text from another offset on.
-pub fn moved<'a>(reader: Reader<'a>, at: usize) -> Reader<'a>
-    ensures { (result.text ≡ reader.entry.text) × (result.at ≡ at) }
-{
-    Reader {
-        text: reader.text,
-        at,
+    // The same text from another offset on.
+    pub fn moved(mut self, at: usize) -> Self
+        ensures { (result.text ≡ self.entry.text) × (result.at ≡ at) }
+    {
+        self.at = at;
+        self
     }
 }
 
 // The full list by steps.
-fn plan_steps(text: &[u8]) -> Plan
+fn plan_steps(text: &[u8]) -> Result<Plan, Refusal>
     ensures { Planned result text.now (steps_plan text.now) }
 {
     if text.len() > max_query_size() {
-        return Plan::Refused(Answer::TooLong(0));
+        return Err(Refusal::TooLong(0));
     }
-    Plan::List(Choice {
+    Ok(Plan::List(Choice {
         position: text.len(),
         drop_whitespace: false,
         drop_comment: false,
-    })
+    }))
 }
 
 // What reading a text into so many bytes answers.
-fn answer_steps(text: &[u8], bytes: usize) -> Answer
+fn answer_steps(text: &[u8], bytes: usize) -> Result<usize, Refusal>
     ensures { Answered result (outcome (steps_plan text.now) (bytes / token_bytes)) }
 {
     let plan = plan_steps(text);
     answer_in(text, plan, bytes / token_bytes())
 }
 
-// Stores a token in the place i of a packed list, and answers the next place.
-fn put_at(list: &mut [u8], i: usize, found: Token) -> usize
+// Stores a token in the place i of a packed list.
+fn put_at(list: &mut [u8], i: usize, found: Token)
     requires { i * token_bytes + token_bytes ≤ length list.old }
-    ensures { (result ≡ i + 1) × (list.new ≡ sets list.old (i * token_bytes) (pack_token (token found.kind found.start found.end))) }
+    ensures { list.new ≡ sets list.old (i * token_bytes) (pack_token (token found.kind found.start found.end)) }
 {
     put_token(list, i * token_bytes(), found.kind, found.start, found.end);
-    i + 1
 }
 
 // A text read with a reader to its end, into a packed list.
-pub fn read_all(text: &[u8], list: &mut [u8]) -> Answer
+pub fn read_all(text: &[u8], list: &mut [u8]) -> Result<usize, Refusal>
     ensures { written result list.new ≡ packed_by (steps_plan text.now) list.old }
 {
     let answer = answer_steps(text, list.len());
-    let stop = stored_by(answer);
-    let mut reader = open(text);
-    let mut i: usize = 0;
-    while i < stop {
-        let found = next(reader);
-        let after = put_at(list, i, found.token);
-        reader = moved(reader, found.cursor);
-        i = after;
+    let mut reader = Reader::open(text);
+    for i in 0..stored_by(answer) {
+        let Ok(found) = reader.next() else {
+            unreachable!();
+        };
+        put_at(list, i, found);
+        reader = reader.moved(found.end as usize);
     }
     answer
 }

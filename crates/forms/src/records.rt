@@ -6,29 +6,33 @@ ghost use Rattle.forms.specs.Records.{recorded, records_by, record_listing, reco
 use lexer::token::Token;
 use lists::listing::{Plan, Settings, plan_up_to, plan_whole};
 use lists::picks::{answer_by, begin, no_bits, pick};
-use rules::answer::Answer;
+use rules::refusal::Refusal;
 
 // Stores a plan's list from the front on.
-pub fn store_records(text: &[u8], plan: Plan, list: &mut [Token]) -> Answer
+pub fn store_records(
+    text: &[u8],
+    plan: Result<Plan, Refusal>,
+    list: &mut [Token],
+) -> Result<usize, Refusal>
     requires { Follows plan text.now }
     ensures { recorded result list.new ≡ records_by (plan_of plan text.now) list.old }
 {
     let mut lone = no_bits();
     let mut at = begin(text, plan, list.len());
-    let mut i: usize = 0;
-    loop {
-        at = pick(text, at, &mut lone);
-        if !at.found {
-            break;
-        }
-        list[i] = at.token;
+    let mut i = 0;
+    while let Some(token) = pick(text, &mut at, &mut lone) {
+        list[i] = token;
         i += 1;
     }
     answer_by(at, i)
 }
 
 // The whole listing.
-pub fn tokenize_records(settings: Settings, text: &[u8], list: &mut [Token]) -> Answer
+pub fn tokenize_records(
+    settings: Settings,
+    text: &[u8],
+    list: &mut [Token],
+) -> Result<usize, Refusal>
     ensures { recorded result list.new ≡ record_listing settings.mode text.now list.old }
 {
     let plan = plan_whole(settings, text);
@@ -40,7 +44,7 @@ pub fn tokenize_up_to_position_records(
     settings: Settings,
     text: &[u8],
     list: &mut [Token],
-) -> Answer
+) -> Result<usize, Refusal>
     ensures { recorded result list.new ≡ record_listing_up_to settings.mode settings.position text.now list.old }
 {
     let plan = plan_up_to(settings, text);
@@ -56,7 +60,7 @@ pub fn records_64(settings: Settings, text: &[u8]) -> [Token; 64]
         start: 0,
         end: 0,
     }; 64];
-    tokenize_records(settings, text, &mut list);
+    let _ = tokenize_records(settings, text, &mut list);
     list
 }
 
@@ -69,6 +73,6 @@ pub fn records_64_up_to(settings: Settings, text: &[u8]) -> [Token; 64]
         start: 0,
         end: 0,
     }; 64];
-    tokenize_up_to_position_records(settings, text, &mut list);
+    let _ = tokenize_up_to_position_records(settings, text, &mut list);
     list
 }

@@ -7,8 +7,8 @@ abbrev pub invariant-loop-i : goal.invariant-loop-i
 invariant-loop-i l = record {
   read : Read l.text l.initial.list l.i l.reader.at l.list;
   text : l.reader.text.now ≡ l.text;
-  within : l.i ≤ l.stop;
+  within : l.i ≤ l.i-end;
 }
 
 abbrev pub decreases-loop-i : goal.decreases-loop-i
-decreases-loop-i l = l.stop - l.i
+decreases-loop-i l = l.i-end - l.i

@@ -4,8 +4,8 @@ use Rattle.lists.specs.Picks.{records_from}
 use Rattle.forms.proofs.Stored.{Stood}
 use Rattle.forms.proofs.records.store_records.Given as goal
 
-abbrev pub invariant-loop-at : goal.invariant-loop-at
-invariant-loop-at l = Stood l.text l.initial.at l.initial.list l.i l.at l.lone l.list
+abbrev pub invariant-loop-token : goal.invariant-loop-token
+invariant-loop-token l = Stood l.text l.initial.at l.initial.list l.i l.at l.lone l.list
 
-abbrev pub decreases-loop-at : goal.decreases-loop-at
-decreases-loop-at l = suc (length (records_from l.initial.at.plan l.text 0)) - l.i
+abbrev pub decreases-loop-token : goal.decreases-loop-token
+decreases-loop-token l = suc (length (records_from l.initial.at.plan l.text 0)) - l.i
