@@ -6,7 +6,7 @@ use Prim.Native.Nat.{ℕ, ◌/◌, ◌%◌, ◌^◌}
 use mathlib.Core.Path.{◌≡◌, refl, sym, ap, ◌∙◌}
 use Rattle.rules.proofs as rules
 use Rattle.rules.specs.contracts as rules_says
-use Rattle.rules.proofs.Cases.{one-case, one_answer}
+use Rattle.rules.proofs.Cases.{one-case, one_result, one_answer}
 use Rattle.utf8.proofs as utf8
 use Rattle.utf8.specs.contracts as utf8_says
 use Rattle.classes.proofs as classes
@@ -51,8 +51,6 @@ use Rattle.spans.proofs.places as places
 use Rattle.spans.specs.contracts.places as places_says
 use Rattle.statements.proofs as statements
 use Rattle.statements.specs.contracts as statements_says
-use Rattle.saved.proofs as saved
-use Rattle.saved.specs.contracts as saved_says
 use Rattle.saved.proofs.checks as checks
 use Rattle.saved.specs.contracts.checks as checks_says
 use Rattle.saved.proofs.layout as layout
@@ -63,6 +61,19 @@ use Rattle.saved.proofs.saver as saver
 use Rattle.saved.specs.contracts.saver as saver_says
 use Rattle.giehtamun.proofs as giehtamun
 use Rattle.giehtamun.specs.contracts as giehtamun_says
+use Rattle.std.specs.Prelude.{Result, Ok, Err}
+use mathlib.Core.List.{List, []}
+use Rattle.rules.specs.Cases.{part}
+use Rattle.rules.specs.Saved.{Loaded as Files}
+use Rattle.rules.specs.declared.refusal.Refusal.{Refusal}
+use Rattle.lexer.specs.declared.token.Token.{Token}
+use Rattle.steps.specs.Stepped.{stepped}
+use Rattle.spans.specs.Placed.{placed}
+use Rattle.spans.specs.declared.places.Position.{Position}
+use Rattle.statements.specs.First.{first}
+use Rattle.statements.specs.declared.First.{First}
+use Rattle.saved.specs.Answered.{loaded}
+use Rattle.saved.specs.declared.loader.Loaded.{Loaded}
 use Rattle.promises.specs.Determined.{Determined, DeterminedAs}
 
 same : {A : Type 0} {x y z : A} → x ≡ z → y ≡ z → x ≡ y
@@ -81,6 +92,39 @@ one_settings r s e i = record { mode = e.0 i; position = e.1 i }
 one_reader : (r s : Reader) → (r.text ≡ s.text) × (r.at ≡ s.at) → r ≡ s
 one_reader r s e i = record { text = e.0 i; at = e.1 i }
 
+-- What comes back tells the answer, as each function's definition reads it.
+one_step : (cursor : ℕ) (r s : Result Token Refusal) → stepped r cursor ≡ stepped s cursor → r ≡ s
+one_step cursor =
+    one_result (λ r. stepped r cursor) (λ x. x.number) (λ x. x.value) (λ r. (refl, refl)) (λ t. refl)
+    (λ t u e i. record { kind = (e i).token.kind; start = (e i).token.start; end = (e i).token.end })
+
+one_place : (offset : ℕ) (r s : Result Position Refusal) → placed r offset ≡ placed s offset → r ≡ s
+one_place offset =
+    one_result (λ r. placed r offset) (λ x. x.number) (λ x. x.value) (λ r. (refl, refl)) (λ t. refl)
+    (λ t u e i. record { line = (e i).place.line; column = (e i).place.column })
+
+one_first : (r s : Result First Refusal) → first r ≡ first s → r ≡ s
+one_first =
+    one_result first (λ x. x.number) (λ x. x.statement.bytes) (λ r. (refl, refl)) (λ t. refl)
+    (λ t u e i. record { tokens = (e i).statement.tokens; bytes = (e i).statement.bytes; end = (e i).statement.end })
+
+-- without what the lent buffer holds
+alone : Files → Files
+alone x = record { number = x.number; value = x.value; flag = x.flag; buffer = [] }
+
+loaded-alone : (r : Result Loaded Refusal) (list : List ℕ) → (alone (loaded r list) ≡ loaded r []) × ((loaded r list).buffer ≡ list)
+unfolding alone
+loaded-alone (Ok l) list = (refl, refl)
+loaded-alone (Err x) list = (refl, refl)
+
+one_loaded : (r s : Result Loaded Refusal) (list list' : List ℕ) → loaded r list ≡ loaded s list' → (r ≡ s) × (list ≡ list')
+one_loaded r s list list' e =
+    let p = loaded-alone r list in
+    let q = loaded-alone s list' in (
+      one_result (λ r. loaded r []) (λ x. x.number) (λ x. x.value) (λ r. (refl, refl)) (λ t. refl) (λ t u e i. record { tokens = (e i).value; flag = (e i).flag }) r s (sym p.0 ∙ ap alone e ∙ q.0),
+      sym p.1 ∙ ap (λ (x : Files). x.buffer) e ∙ q.1,
+    )
+
 pub max_query_size : Determined rules_says.max_query_size.ended rules.max_query_size.Reads.Learnt
 max_query_size κs a r s u v p q = (same p q, refl)
 
@@ -90,11 +134,11 @@ token_bytes κs a r s u v p q = (same p q, refl)
 pub mask_byte : Determined rules_says.mask_byte.ended rules.mask_byte.Reads.Learnt
 mask_byte κs a r s u v p q = (same p q, refl)
 
-pub answer_number : Determined rules_says.answer.Answer.number.ended rules.answer.Answer.number.Reads.Learnt
-answer_number κs a r s u v p q = (same p q, refl)
+pub refusal_number : Determined rules_says.refusal.Refusal.number.ended rules.refusal.Refusal.number.Reads.Learnt
+refusal_number κs a r s u v p q = (same p q, refl)
 
-pub answer_value : Determined rules_says.answer.Answer.value.ended rules.answer.Answer.value.Reads.Learnt
-answer_value κs a r s u v p q = (same p q, refl)
+pub refusal_value : Determined rules_says.refusal.Refusal.value.ended rules.refusal.Refusal.value.Reads.Learnt
+refusal_value κs a r s u v p q = (same p q, refl)
 
 pub byte_at : Determined utf8_says.byte_at.ended utf8.byte_at.Reads.Learnt
 byte_at κs a r s u v p q = (same p q, refl)
@@ -200,7 +244,7 @@ pub is_long : Determined edges_says.is_long.ended edges.is_long.Reads.Learnt
 is_long κs a r s u v p q = (same p q, refl)
 
 pub step : Determined steps_says.step.ended steps.step.Reads.Learnt
-step κs a r s u v p q = (same p q, refl)
+step κs a r s u v p q = (one_step a.1.0 r s (same p q), refl)
 
 pub new_settings : Determined listing_says.Settings.new.ended listing.Settings.new.Reads.Learnt
 new_settings κs a r s u v p q = (one_settings r s (both p q), refl)
@@ -220,16 +264,16 @@ tokenize κs a r s u v p q = lent (λ l. (tt, (tt, (l, tt)))) (one_answer r s _ 
 pub tokenize_up_to_position : Determined listing_says.tokenize_up_to_position.ended listing.tokenize_up_to_position.Reads.Learnt
 tokenize_up_to_position κs a r s u v p q = lent (λ l. (tt, (tt, (l, tt)))) (one_answer r s _ _ _ p q)
 
-pub reader_open : Determined reader_says.«open».ended reader.«open».Reads.Learnt
+pub reader_open : Determined reader_says.Reader.«open».ended reader.Reader.«open».Reads.Learnt
 reader_open κs a r s u v p q = (one_reader r s (both p q), refl)
 
-pub next : Determined reader_says.next.ended reader.next.Reads.Learnt
-next κs a r s u v p q = (same p q, refl)
+pub next : Determined reader_says.Reader.next.ended reader.Reader.next.Reads.Learnt
+next κs a r s u v p q = (one_step a.0.at r s (same p q), refl)
 
-pub at_end : Determined reader_says.at_end.ended reader.at_end.Reads.Learnt
+pub at_end : Determined reader_says.Reader.at_end.ended reader.Reader.at_end.Reads.Learnt
 at_end κs a r s u v p q = (same p q, refl)
 
-pub moved : Determined reader_says.moved.ended reader.moved.Reads.Learnt
+pub moved : Determined reader_says.Reader.moved.ended reader.Reader.moved.Reads.Learnt
 moved κs a r s u v p q = (one_reader r s (both p q), refl)
 
 pub store_records : Determined records_says.store_records.ended records.store_records.Reads.Learnt
@@ -283,9 +327,6 @@ put_token κs a r s u v p q = lent (λ l. (l, u.1)) (both p q)
 pub mask : Determined copy_says.mask.ended copy.mask.Reads.Learnt
 mask κs a r s u v p q = lent (λ l. (tt, (l, tt))) (one_answer r s _ _ _ p q)
 
-pub answer : Determined saved_says.answer.ended saved.answer.Reads.Learnt
-answer κs a r s u v p q = (same p q, refl)
-
 pub put_record : Determined layout_says.put_record.ended layout.put_record.Reads.Learnt
 put_record κs a r s u v p q = lent (λ l. (l, u.1)) (both p q)
 
@@ -302,37 +343,28 @@ pub records_fit : Determined checks_says.records_fit.ended checks.records_fit.Re
 records_fit κs a r s u v p q = (same p q, refl)
 
 pub save : Determined saver_says.save.ended saver.save.Reads.Learnt
-save κs a r s u v p q = let e = same p q in (λ i. record { number = (e i).number; value = (e i).value }, λ i. (tt, (tt, (tt, ((e i).buffer, tt)))))
+save κs a r s u v p q = lent (λ l. (tt, (tt, (tt, (l, tt))))) (one_answer r s _ _ _ p q)
 
 pub load : Determined loader_says.load.ended loader.load.Reads.Learnt
-load κs a r s u v p q = let e = same p q in (λ i. record { number = (e i).number; value = (e i).value; flag = (e i).flag }, λ i. (tt, ((e i).buffer, tt)))
+load κs a r s u v p q = lent (λ l. (tt, (l, tt))) (one_loaded r s _ _ (same p q))
 
-pub saved_text_answer : Determined loader_says.saved_text_answer.ended loader.saved_text_answer.Reads.Learnt
-saved_text_answer κs a r s u v p q = (same p q, refl)
-
-pub saved_text : DeterminedAs loader_says.saved_text.ended loader.saved_text.Reads.Learnt (λ κs r. r.now)
+pub saved_text : DeterminedAs loader_says.saved_text.ended loader.saved_text.Reads.Learnt (λ κs r. part r (λ bytes. bytes.now))
 saved_text κs a r s u v p q = (same p q, refl)
 
 pub hides : Determined parts_says.hides.ended parts.hides.Reads.Learnt
 hides κs a r s u v p q = (same p q, refl)
 
-pub token_text_answer : Determined parts_says.token_text_answer.ended parts.token_text_answer.Reads.Learnt
-token_text_answer κs a r s u v p q = (one-case r s (same p.0 q.0) (same p.1 q.1), refl)
-
-pub token_text : DeterminedAs parts_says.token_text.ended parts.token_text.Reads.Learnt (λ κs r. r.now)
+pub token_text : DeterminedAs parts_says.token_text.ended parts.token_text.Reads.Learnt (λ κs r. part r (λ bytes. bytes.now))
 token_text κs a r s u v p q = (same p q, refl)
 
-pub shown_text_answer : Determined parts_says.shown_text_answer.ended parts.shown_text_answer.Reads.Learnt
-shown_text_answer κs a r s u v p q = (one-case r s (same p.0 q.0) (same p.1 q.1), refl)
-
-pub shown_text : DeterminedAs parts_says.shown_text.ended parts.shown_text.Reads.Learnt (λ κs r. r.now)
+pub shown_text : DeterminedAs parts_says.shown_text.ended parts.shown_text.Reads.Learnt (λ κs r. part r (λ bytes. bytes.now))
 shown_text κs a r s u v p q = (same p q, refl)
 
 pub place : Determined places_says.place.ended places.place.Reads.Learnt
-place κs a r s u v p q = (same p q, refl)
+place κs a r s u v p q = (one_place a.1.0 r s (same p q), refl)
 
 pub first_statement : Determined statements_says.first_statement.ended statements.first_statement.Reads.Learnt
-first_statement κs a r s u v p q = (same p q, refl)
+first_statement κs a r s u v p q = (one_first r s (same p q), refl)
 
 pub giehtamun_list : Determined giehtamun_says.giehtamun_list.ended giehtamun.giehtamun_list.Reads.Learnt
 giehtamun_list κs a r s u v p q = lent (λ l. (tt, (tt, (l, tt)))) (both p q)

@@ -2,13 +2,13 @@
 -- Assumes nothing.
 use Prim.Native.Nat.{ℕ, zero, suc}
 use mathlib.Core.Path.{◌≡◌, refl, sym, ap, ap₂, ◌∙◌}
-use mathlib.Core.List.{List}
+use mathlib.Core.List.{List, []}
 use native.Mathlib.Omega.{arith}
 use Rattle.std.specs.Prelude.{Result, Ok, Err}
 use Rattle.rules.specs.Answers.{Written}
 use Rattle.rules.specs.declared.refusal.Refusal.{Refusal}
 use Rattle.rules.specs.declared.refusal.Refusal.TheVariants.{TooLong, NotUtf8, NoRoom, Beyond, NoPart, NoMode, OtherLength, Malformed, NoVersion}
-use Rattle.rules.specs.Cases.{refusal_number, refusal_value, Answer, number_of, value_by, value_of, written}
+use Rattle.rules.specs.Cases.{refusal_number, refusal_value, Answer, number_of, value_of, written}
 
 refusal_of : ℕ → ℕ → Refusal
 refusal_of zero n = NoVersion
@@ -34,7 +34,7 @@ back OtherLength = refl
 back Malformed = refl
 back NoVersion = refl
 
-one_refusal : (r q : Refusal) → refusal_number r ≡ refusal_number q → refusal_value r ≡ refusal_value q → r ≡ q
+pub one_refusal : (r q : Refusal) → refusal_number r ≡ refusal_number q → refusal_value r ≡ refusal_value q → r ≡ q
 one_refusal r q n v = sym (back r) ∙ ap₂ refusal_of n v ∙ back q
 
 pub not_done : (r : Refusal) → refusal_number r ≡ 0 → ⊥
@@ -48,18 +48,16 @@ not_done OtherLength e = omega (arith, e)
 not_done Malformed e = omega (arith, e)
 not_done NoVersion e = omega (arith, e)
 
--- Two answers of one number and one value are equal, where so are two that are Ok.
-pub one_result : {T : Type 0} (value : T → ℕ) (a b : Result T Refusal) → number_of a ≡ number_of b → value_by value a ≡ value_by value b → ((x y : T) → a ≡ Ok x → b ≡ Ok y → x ≡ y) → a ≡ b
-one_result value (Ok x) (Ok y) n v only = ap Ok (only x y refl refl)
-one_result value (Ok x) (Err r) n v only = absurd (not_done r (sym n))
-one_result value (Err r) (Ok y) n v only = absurd (not_done r n)
-one_result value (Err r) (Err q) n v only = ap Err (one_refusal r q n v)
+-- Two answers that look alike are equal, where what is looked at has the number and the value of a refusal, and of an Ok the number 0 and all that it holds.
+pub one_result : {T X : Type 0} (look : Result T Refusal → X) (number value : X → ℕ) → ((r : Refusal) → (number (look (Err r)) ≡ refusal_number r) × (value (look (Err r)) ≡ refusal_value r)) → ((t : T) → number (look (Ok t)) ≡ 0)
+    → ((t u : T) → look (Ok t) ≡ look (Ok u) → t ≡ u) → (a b : Result T Refusal) → look a ≡ look b → a ≡ b
+one_result look number value refused done only (Ok t) (Ok u) e = ap Ok (only t u e)
+one_result look number value refused done only (Ok t) (Err r) e = absurd (not_done r (sym (refused r).0 ∙ sym (ap number e) ∙ done t))
+one_result look number value refused done only (Err r) (Ok t) e = absurd (not_done r (sym (refused r).0 ∙ ap number e ∙ done t))
+one_result look number value refused done only (Err r) (Err q) e = ap Err (one_refusal r q (sym (refused r).0 ∙ ap number e ∙ (refused q).0) (sym (refused r).1 ∙ ap value e ∙ (refused q).1))
 
 pub one-case : (a b : Answer) → number_of a ≡ number_of b → value_of a ≡ value_of b → a ≡ b
-one-case (Ok x) (Ok y) n v = ap Ok v
-one-case (Ok x) (Err r) n v = absurd (not_done r (sym n))
-one-case (Err r) (Ok y) n v = absurd (not_done r n)
-one-case (Err r) (Err q) n v = ap Err (one_refusal r q n v)
+one-case a b n v = one_result (λ x. written x []) (λ w. w.number) (λ w. w.value) (λ r. (refl, refl)) (λ t. refl) (λ t u e. ap (λ (w : Written). w.value) e) a b (λ i. record { number = n i; value = v i; buffer = [] })
 
 pub one_answer : (a b : Answer) (buffer buffer' : List ℕ) (w : Written) → written a buffer ≡ w → written b buffer' ≡ w → (a ≡ b) × (buffer ≡ buffer')
 one_answer a b buffer buffer' w p q =
