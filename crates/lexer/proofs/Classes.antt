@@ -25,11 +25,11 @@ ascii_agree p q e b = go (ltb b 0x80) refl
     go true h = e b (ltb-true b 0x80 h)
     go false h = refl
 
-pub space-byte : (b : ℕ) → (eqb b 0x20 || within 0x09 0x0D b) ≡ (ltb b 0x80 && white_space b)
-space-byte b = go (ltb b 0x80) refl
+pub space_byte : (b : ℕ) → (ltb b 0x80 && white_space b) ≡ (eqb b 0x20 || within 0x09 0x0D b)
+space_byte b = go (ltb b 0x80) refl
   where
-    go : (t : Bool) → ltb b 0x80 ≡ t → (eqb b 0x20 || within 0x09 0x0D b) ≡ (t && white_space b)
-    go true h = sym (ascii_space b (ltb-true b 0x80 h))
+    go : (t : Bool) → ltb b 0x80 ≡ t → (t && white_space b) ≡ (eqb b 0x20 || within 0x09 0x0D b)
+    go true h = ascii_space b (ltb-true b 0x80 h)
     go false h = let l = ltb-false b 0x80 h in simp (ne_eqb b 0x20 (λ e. omega arith), lt-leb b 0x0D (omega arith), and-false)
 
 pub word_none : (d : Bool) → word_with d no_code ≡ false

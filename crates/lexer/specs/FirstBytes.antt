@@ -36,12 +36,6 @@ first_byte_kind a =
     (single a))))))
     NoToken
 
--- The kinds of eight bytes, the first lowest.
-unfoldable pub first_byte_row : ℕ → ℕ
-first_byte_row e =
-    let k : ℕ → ℕ = λ n. first_byte_kind (e * 8 + n) in
-    k 0 + 256 * (k 1 + 256 * (k 2 + 256 * (k 3 + 256 * (k 4 + 256 * (k 5 + 256 * (k 6 + 256 * k 7))))))
-
 -- A byte at which rule 2 starts a token, unless two bytes start a comment.
 pub record Operates (a : ℕ) : Type 0 where
   pub ascii : a < 0x80

@@ -17,6 +17,14 @@ pub struct Lexed {
     pub end: usize,
 }
 
+impl Lexed {
+    pub fn new(kind: u32, end: usize) -> Self
+        ensures { result ≡ record { kind = kind; end = end } }
+    {
+        Self { kind, end }
+    }
+}
+
 // A lexeme in one number: what comes back from a function out of line goes through memory, and a number doesn't.
 pub fn join(kind: u32, end: usize) -> u64
     ensures { result ≡ joined (record { kind = kind; end = end }) }

@@ -103,7 +103,7 @@ find_delimiter_spec =
     (λ c κs. let g = c.before.before.before.before.before.before.before in (omega arith, subst Edges (sym c.before.only.ensures) (edges_one dollar (omega arith)), subst Edges (sym c.only-in-loop-i.ensures) (edges_one _ (low g))))
     (λ c κs. (c.skip_pairs-i.ensures.upto, omega arith))
     (λ c. inner c.before)
-    (λ c κs. c.before.before.before.before.before.before.before.before.before.before.before.before.requires.0.1)
+    (λ c κs. (omega arith, c.before.before.before.before.before.before.before.before.before.before.before.before.requires.0.1))
     overflow_add-result
     returns-then-matches
     (λ c. omega (arith, inner c.before.before))
