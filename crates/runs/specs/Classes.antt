@@ -12,10 +12,6 @@ pub Ascii-prop : (es : List ℕ) → IsProp (Ascii es)
 Ascii-prop [] = Unit-prop
 Ascii-prop (e ∷ es) = ×_prop le_prop (Ascii-prop es)
 
--- Four pairs of such edges.
-abbrev pub Edges : List ℕ → Type 0
-Edges es = (length es ≡ 8) × Ascii es
-
 -- An odd number of the edges are at most b.
 unfoldable pub past : List ℕ → ℕ → Bool
 past [] b = false
