@@ -119,9 +119,11 @@ pub(crate) fn is_spaceship(a: u8, b: u8, c: u8) -> bool
 // The class of one byte.
 pub(crate) fn only(a: u8) -> Class
     requires { a < 0x80 }
-    ensures { result ≡ a ∷ (a + 1) ∷ 0 ∷ 0 ∷ 0 ∷ 0 ∷ 0 ∷ 0 ∷ [] }
+    ensures { result.edges ≡ a ∷ (a + 1) ∷ 0 ∷ 0 ∷ 0 ∷ 0 ∷ 0 ∷ 0 ∷ [] }
 {
-    [a, a + 1, 0, 0, 0, 0, 0, 0]
+    Class {
+        edges: [a, a + 1, 0, 0, 0, 0, 0, 0],
+    }
 }
 
 // Over the bytes of ASCII from `at` on that a word has, by eights: the last seven bytes of the text may be left.
@@ -129,8 +131,7 @@ pub(crate) fn skip_words(text: &[u8], at: usize) -> usize
     requires { at ≤ length text.now }
     ensures { Skips ascii_word text.now at result }
 {
-    let class = [b'0', b':', b'A', b'[', b'_', b'`', b'a', b'{'];
-    runs::skip(text, at, false, class)
+    runs::skip(text, at, false, Class::WORDS)
 }
 
 // The same over digits.
@@ -138,8 +139,7 @@ pub(crate) fn skip_digits(text: &[u8], at: usize) -> usize
     requires { at ≤ length text.now }
     ensures { Skips digit text.now at result }
 {
-    let class = [b'0', b':', 0, 0, 0, 0, 0, 0];
-    runs::skip(text, at, false, class)
+    runs::skip(text, at, false, Class::DIGITS)
 }
 
 // The same over white space of ASCII.
@@ -147,8 +147,7 @@ pub(crate) fn skip_spaces(text: &[u8], at: usize) -> usize
     requires { at ≤ length text.now }
     ensures { Skips (λ b. ltb b 0x80 && white_space b) text.now at result }
 {
-    let k = [b'\t', 14, b' ', b'!', 0, 0, 0, 0];
-    runs::skip(text, at, false, k)
+    runs::skip(text, at, false, Class::SPACES)
 }
 
 // The same up to a byte `a`.
@@ -171,6 +170,8 @@ pub(crate) fn skip_to_either(text: &[u8], at: usize, a: u8, b: u8) -> usize
     if (x == a) | (x == b) {
         return at;
     }
-    let k = [a, a + 1, b, b + 1, 0, 0, 0, 0];
-    runs::skip(text, at, true, k)
+    let either = Class {
+        edges: [a, a + 1, b, b + 1, 0, 0, 0, 0],
+    };
+    runs::skip(text, at, true, either)
 }

@@ -1,7 +1,6 @@
 // The readers, under the Rust's names and in its order. Each takes the text and an offset; none needs the text to be UTF-8.
 ghost use Rattle.std.specs.Prelude.{◌≡◌, Bool, true, false, ◌&&◌, ◌+◌, ◌-◌, ◌≤◌, ◌<◌, length, get_or, take, drop, eqb, ◌≢◌, MatchOption};
 ghost use Rattle.rules.specs.Utf8.{char_at, chars};
-ghost use Rattle.classes.specs.Held.{Held};
 ghost use Rattle.rules.specs.Classes.{white_space, alphabetic, digit, hex_digit};
 ghost use Rattle.rules.specs.Characters.{dollar, underscore, backslash};
 ghost use Rattle.rules.specs.Kinds.{NoToken, Comment, ErrorMultilineCommentIsNotClosed};
@@ -30,7 +29,6 @@ use crate::fast::{
 };
 use crate::syntax_kind::SyntaxKind;
 use crate::token::{Lexed, join};
-use classes::tables::ClassTable;
 use runs::skip_pairs;
 use utf8::{byte_at, is_tail, unit_at, unit_code, unit_len};
 
@@ -545,23 +543,22 @@ fn read_dollar(text: &[u8], start: usize) -> Lexed
     Lexed::new(SyntaxKind::HereDoc, end)
 }
 
-fn is_word_in(table: &ClassTable, c: u32, dollar: bool) -> bool
-    requires { Held table.now }
+fn is_word_in(c: u32, dollar: bool) -> bool
     ensures { result ≡ word_with dollar c }
 {
     if c < 0x80 {
         return is_word_byte(c as u8, dollar);
     }
-    classes::is_alphanumeric_in(table, c)
+    classes::is_alphanumeric(c)
 }
 
 // The bytes of the word character at `at`, or 0 where there is none.
-fn word_len(table: &ClassTable, text: &[u8], at: usize, dollar: bool) -> usize
-    requires { Held table.now }
+#[inline(never)]
+fn word_len(text: &[u8], at: usize, dollar: bool) -> usize
     ensures { Step (word_with dollar) text.now at result }
 {
     let u = unit_at(text, at);
-    if is_word_in(table, unit_code(u), dollar) {
+    if is_word_in(unit_code(u), dollar) {
         unit_len(u)
     } else {
         0
@@ -569,47 +566,33 @@ fn word_len(table: &ClassTable, text: &[u8], at: usize, dollar: bool) -> usize
 }
 
 // True only if `c` is a letter of Latin past ASCII up to U+02C1, of Cyrillic, Hebrew or Arabic. By comparisons, so that a word of such
-// letters makes no table.
+// letters asks no table.
 fn is_common_letter(c: u32) -> bool
     ensures { result ≡ true → alphabetic c ≡ true }
 {
-    (0xC0 <= c) & (c < 0xD7)
-        | (0xD8 <= c) & (c < 0xF7)
-        | (0xF8 <= c) & (c < 0x2C2)
-        | (0x400 <= c) & (c < 0x482)
-        | (0x5D0 <= c) & (c < 0x5EB)
-        | (0x620 <= c) & (c < 0x658)
-        | (0x66E <= c) & (c < 0x6D4)
+    matches!(
+        c,
+        0xC0..0xD7
+            | 0xD8..0xF7
+            | 0xF8..0x2C2
+            | 0x400..0x482
+            | 0x5D0..0x5EB
+            | 0x620..0x658
+            | 0x66E..0x6D4
+    )
 }
 
-// The bytes of such a letter at `at`, which are two, or 0 where there is none.
-fn common_len(text: &[u8], at: usize) -> usize
+// Such a letter stands at `at`: it has two bytes.
+fn is_common_at(text: &[u8], at: usize) -> bool
     requires { at < length text.now }
-    ensures { (result ≡ 0 → ⊥) → (d : Bool) → Step (word_with d) text.now at result }
+    ensures { result ≡ true → (d : Bool) → Step (word_with d) text.now at 2 }
 {
-    let a = byte_at(text, at);
+    let a = text[at];
     let b = byte_at(text, at + 1);
-    if ((0xC2 <= a) & (a <= 0xDF)) & is_tail(b) {
-        if is_common_letter(a as u32 % 32 * 64 + b as u32 % 64) {
-            return 2;
-        }
+    if a < 0xC2 || 0xDF < a || !is_tail(b) {
+        return false;
     }
-    0
-}
-
-// A word from its first character on that needs the table, which is made once, for all that is left.
-fn read_word_by_table(text: &[u8], at: usize, dollar: bool) -> usize
-    ensures { result ≡ at + run (word_with dollar) (chars (drop at text.now)) }
-{
-    let table = classes::class_table();
-    let mut j = at;
-    loop {
-        let n = word_len(&table, text, j, dollar);
-        if n == 0 {
-            return j;
-        }
-        j += n;
-    }
+    is_common_letter(a as u32 % 32 * 64 + b as u32 % 64)
 }
 
 // The characters that a word goes on over; `dollar`: with `$`, as a word that starts with a number has it.
@@ -626,13 +609,13 @@ fn read_word(text: &[u8], at: usize, dollar: bool) -> usize
         if b < 0x80 {
             return j;
         }
-        let n = common_len(text, j);
+        let n = if is_common_at(text, j) {
+            2
+        } else {
+            word_len(text, j, dollar)
+        };
         if n == 0 {
-            // Called at two places, it isn't inlined, and its table stays out of this frame.
-            if dollar {
-                return read_word_by_table(text, j, true);
-            }
-            return read_word_by_table(text, j, false);
+            return j;
         }
         j += n;
     }

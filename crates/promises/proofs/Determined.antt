@@ -126,12 +126,6 @@ is_alphabetic κs a r s u v p q = (same p q, refl)
 pub is_alphanumeric : Determined classes_says.is_alphanumeric.ended classes.is_alphanumeric.Reads.Learnt
 is_alphanumeric κs a r s u v p q = (same p q, refl)
 
-pub class_table : Determined classes_says.class_table.ended classes.class_table.Reads.Learnt
-class_table κs a r s u v p q = (same p.both q.both, refl)
-
-pub is_alphanumeric_in : Determined classes_says.is_alphanumeric_in.ended classes.is_alphanumeric_in.Reads.Learnt
-is_alphanumeric_in κs a r s u v p q = (same p q, refl)
-
 pub probe_valid_length : Determined probe_says.probe_valid_length.ended probe.probe_valid_length.Reads.Learnt
 probe_valid_length κs a r s u v p q = (same p q, refl)
 
