@@ -5,7 +5,7 @@ use Rattle.lexer.specs.declared.token.Lexed.{Lexed}
 use Rattle.edges.specs.Leads.{told}
 use Rattle.edges.specs.Left.{Left}
 use Rattle.edges.proofs.Tells.{lead_small}
-use Rattle.edges.proofs.Walks.{end_in, token, next}
+use Rattle.edges.proofs.Walks.{token, next}
 use Rattle.edges.proofs.plain.Goals as goal
 
 pub is_told-requires : goal.is_told-requires
