@@ -1,5 +1,5 @@
 -- What a reader answers, from what is known of the lexeme or of the part. Assumes nothing.
-use Prim.Native.Nat.{ℕ, ◌+◌, ◌-◌, ◌/◌, ◌%◌, ◌^◌, ◌≤◌, ◌<◌}
+use Prim.Native.Nat.{ℕ, ◌+◌, ◌-◌, ◌≤◌, ◌<◌}
 use mathlib.Core.Path.{◌≡◌, refl, sym, ap, ◌∙◌}
 use native.Mathlib.Omega.{arith}
 use mathlib.Core.List.{List}
@@ -12,9 +12,7 @@ use Rattle.rules.specs.Numbers.{Figures}
 use Rattle.rules.specs.Tokens.{Token, token, token_at, lexeme, after_dot_at}
 use Rattle.rules.proofs.Edges.{step_fits}
 use Rattle.lexer.specs.declared.token.Lexed.{Lexed}
-use Rattle.rules.specs.Limits.{max_query_size}
-use Rattle.rules.proofs.KnownKinds.{kind_known}
-use Rattle.lexer.specs.Ends.{ends_at, joined, Lexes, part_at}
+use Rattle.lexer.specs.Ends.{ends_at, part_at}
 
 pub part_well : (at : ℕ) {f : Figures} {n : ℕ} → f ≡ record { well = true; size = n } → (end : ℕ) → end ≡ at + n → Ok end ≡ part_at at f
 part_well at e end p = ap {B = Result ℕ ℕ} Ok p ∙ sym (ap (part_at at) e)
@@ -60,20 +58,3 @@ rest s i = take_all (length s - i) (drop i s) (omega (arith, length-drop i s))
 -- the whole text, as a slice of itself
 pub sliced : (s : List ℕ) → take (length s - 0) s ≡ s
 sliced s = take_all (length s - 0) s (omega arith)
-
-pub sliced_token : (i : ℕ) (s : List ℕ) → let t = take (length s - 0) s in ends_at i (lexeme (after_dot_at t i) (drop i t)) ≡ ends_at i (lexeme (after_dot_at s i) (drop i s))
-sliced_token i s = ap (λ (t : List ℕ). ends_at i (lexeme (after_dot_at t i) (drop i t))) (sliced s)
-
--- a lexeme and a number that has it
-pub split : (j : ℕ) (l : Lexed) → j ≡ joined l → l.end < 2 ^ 32 → (j / 2 ^ 32 ≡ l.kind) × (j % 2 ^ 32 ≡ l.end)
-split j l e h = (omega arith, omega arith)
-
--- a token of a text within the limit, in one number
-pub lexes : (s : List ℕ) (at r : ℕ) → length s ≤ max_query_size → at < length s → r ≡ joined (ends_at at (lexeme (after_dot_at s at) (drop at s))) → Lexes s at r
-lexes s at r m h e =
-    let l = ends_at at (lexeme (after_dot_at s at) (drop at s)) in
-    let f = next_lies s at l h refl in
-    let k = kind_known (after_dot_at s at) (drop at s) in
-    let z = split r l e (omega arith) in
-    let p : r / 2 ^ 32 % 64 ≡ l.kind = omega arith in
-    ap {B = Lexed} (λ (k : ℕ). record { kind = k; end = r % 2 ^ 32 }) p ∙ ap {B = Lexed} (λ (n : ℕ). record { kind = l.kind; end = n }) z.1

@@ -12,7 +12,7 @@ ghost use Rattle.rules.specs.Quotes.{quoted_body, up_to};
 ghost use Rattle.rules.specs.Dollars.{begins, find, here_doc, dollar_lexeme};
 ghost use Rattle.rules.specs.Numbers.{digits, radix_digit, opening, fraction, exponent, number_word, starts_suffix, all_chars, closing, number};
 ghost use Rattle.rules.specs.Tokens.{lexeme, after_dot_at};
-ghost use Rattle.lexer.specs.Ends.{ends_at, joined, opened, part_at, operator_at, AsciiTo};
+ghost use Rattle.lexer.specs.Ends.{ends_at, opened, part_at, operator_at, AsciiTo};
 ghost use Rattle.lexer.specs.Steps.{Step};
 ghost use Rattle.lexer.specs.Words.{word_with};
 ghost use Rattle.lexer.specs.FirstBytes.{first_byte_kind, Operates};
@@ -28,95 +28,70 @@ use crate::fast::{
     fast_number, fast_operator, first_byte_kind, is_short_space, number_if_ended, other_len,
 };
 use crate::syntax_kind::SyntaxKind;
-use crate::token::{Lexed, join};
+use crate::token::Lexed;
 use runs::skip_pairs;
 use utf8::{byte_at, is_tail, unit_at, unit_code, unit_len};
 
-// The token at `start`, joined. Each reader is called here and in `last_token`: called at two places it stays out of line, and this
-// function is small. It is handed `&text[0..]`, whose pointer and length go in registers.
-pub fn next_token(text: &[u8], start: usize) -> u64
-    ensures { result ≡ joined (ends_at start (lexeme (after_dot_at text.now start) (drop start text.now))) }
+// The token at `start`.
+pub fn next_token(text: &[u8], start: usize) -> Lexed
+    ensures { result ≡ ends_at start (lexeme (after_dot_at text.now start) (drop start text.now)) }
 {
     if start >= text.len() {
-        return join(SyntaxKind::EndOfStream, start);
+        return Lexed::new(SyntaxKind::EndOfStream, start);
     }
     if text.len() - start < 4 {
-        return last_token(&text[0..], start);
+        return last_token(text, start);
     }
     let k = first_byte_kind(text[start]);
     if k == SyntaxKind::BareWord {
-        return join(SyntaxKind::BareWord, read_bare_word(&text[0..], start));
+        return Lexed::new(SyntaxKind::BareWord, read_bare_word(text, start));
     }
     if k == SyntaxKind::Whitespace {
-        if is_short_space(&text[0..], start) {
-            return join(SyntaxKind::Whitespace, start + 1);
+        if is_short_space(text, start) {
+            return Lexed::new(SyntaxKind::Whitespace, start + 1);
         }
-        return join(SyntaxKind::Whitespace, read_whitespace(&text[0..], start));
+        return Lexed::new(SyntaxKind::Whitespace, read_whitespace(text, start));
     }
     if k == SyntaxKind::Number {
-        return number_token(&text[0..], start);
+        return read_number(text, start);
     }
     if k == SyntaxKind::NoToken {
-        if let Some(n) = other_len(&text[0..], start) {
-            return join(SyntaxKind::ErrorToken, start + n);
+        if let Some(n) = other_len(text, start) {
+            return Lexed::new(SyntaxKind::ErrorToken, start + n);
         }
-        return other_token(&text[0..], start);
+        return read_other(text, start);
     }
     if k < 0x80 {
-        return join(k, start + 1);
+        return Lexed::new(k, start + 1);
     }
-    if let Some(l) = fast_operator(&text[0..], start, k - 0x80) {
-        return join(l.kind, l.end);
+    if let Some(l) = fast_operator(text, start, k - 0x80) {
+        return l;
     }
-    longer_token(&text[0..], start, k - 0x80)
+    read_longer(text, start, k - 0x80)
 }
 
 // The token at `start` near the text's end.
-fn last_token(text: &[u8], start: usize) -> u64
+fn last_token(text: &[u8], start: usize) -> Lexed
     requires { start < length text.now }
-    ensures { result ≡ joined (ends_at start (lexeme (after_dot_at text.now start) (drop start text.now))) }
+    ensures { result ≡ ends_at start (lexeme (after_dot_at text.now start) (drop start text.now)) }
 {
     let k = first_byte_kind(text[start]);
     if k == SyntaxKind::BareWord {
-        return join(SyntaxKind::BareWord, read_bare_word(text, start));
+        return Lexed::new(SyntaxKind::BareWord, read_bare_word(text, start));
     }
     if k == SyntaxKind::Whitespace {
-        return join(SyntaxKind::Whitespace, read_whitespace(text, start));
+        return Lexed::new(SyntaxKind::Whitespace, read_whitespace(text, start));
     }
     if k == SyntaxKind::Number {
-        return number_token(text, start);
+        return read_number(text, start);
     }
     if k == SyntaxKind::NoToken {
-        return other_token(text, start);
+        return read_other(text, start);
     }
     if k < 0x80 {
-        return join(k, start + 1);
+        return Lexed::new(k, start + 1);
     }
-    longer_token(text, start, k - 0x80)
-}
-
-fn number_token(text: &[u8], start: usize) -> u64
-    requires { (start < length text.now) × (digit (get_or text.now start 0) ≡ true) }
-    ensures { result ≡ joined (ends_at start (number (after_dot_at text.now start) (chars (drop start text.now)))) }
-{
-    let l = read_number(text, start);
-    join(l.kind, l.end)
-}
-
-fn other_token(text: &[u8], start: usize) -> u64
-    requires { (start < length text.now) × (first_byte_kind (get_or text.now start 0) ≡ NoToken) }
-    ensures { result ≡ joined (ends_at start (lexeme (after_dot_at text.now start) (drop start text.now))) }
-{
-    let l = read_other(text, start);
-    join(l.kind, l.end)
-}
-
-fn longer_token(text: &[u8], start: usize, kind: u32) -> u64
-    requires { (start < length text.now) × Operates (get_or text.now start 0) × (single (get_or text.now start 0) ≡ kind) }
-    ensures { result ≡ joined (ends_at start (lexeme (after_dot_at text.now start) (drop start text.now))) }
-{
-    let l = read_longer(text, start, kind);
-    join(l.kind, l.end)
+    read_longer(text, start, k - 0x80)
 }
 
 // A token that starts with a character past ASCII, or with a byte that begins none.

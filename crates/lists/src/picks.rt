@@ -12,10 +12,10 @@ ghost use Rattle.lists.specs.Plans.{plan_of, stored_by, Follows};
 ghost use Rattle.lists.specs.Picks.{Answered, Fits, Ready, ReadOn, Picks, answer_by, records_from, records_of};
 
 use crate::listing::{Choice, Plan, count, needed};
-use ahead::{LOOK_AFTER, look_ahead, wasted_by};
+use ahead::{LOOK_AFTER, Marks, look_ahead, wasted_by};
 use edges::read;
 use lexer::syntax_kind::SyntaxKind;
-use lexer::token::{Token, end_of, kind_of};
+use lexer::token::Token;
 use rules::answer::Answer;
 
 // How far a list is picked: by which plan, whether there was one more token and which, and from where on the next one is looked for. `until` and
@@ -151,19 +151,20 @@ fn read_on(text: &[u8], from: Picking, lone: &mut [u64]) -> Picking
 {
     let at = looked(text, from, lone);
     let plan = at.plan;
-    let lexed = read(text, at.cursor, at.until, lone);
-    let cursor = end_of(lexed);
+    let until = at.until;
+    let found = read(text, at.cursor, Marks { until, lone });
+    let cursor = found.token.end;
     Picking {
         plan,
         found: true,
         token: Token {
-            kind: kind_of(lexed) % 64,
+            kind: found.token.kind,
             start: at.cursor as u32,
             end: cursor as u32,
         },
         cursor,
         until: at.until,
-        wasted: at.wasted + wasted_by(lexed, text.len()),
+        wasted: at.wasted + wasted_by(found, text.len()),
     }
 }
 

@@ -5,7 +5,7 @@ ghost use Rattle.std.specs.Prelude.{◌≡◌};
 ghost use Rattle.rules.specs.Answers.{refused_step, step};
 ghost use Rattle.steps.specs.Stepped.{stepped};
 
-use lexer::token::{Token, end_of, kind_of};
+use lexer::token::Token;
 use lexer::tokenizer::next_token;
 
 // What a step gives: document 01's number and value, the token, and the cursor to go on from.
@@ -42,16 +42,15 @@ pub fn step(text: &[u8], cursor: usize) -> Stepped
     if cursor > text.len() {
         return refused_step(4, cursor);
     }
-    let l = next_token(&text[0..], cursor);
-    let end = end_of(l);
+    let l = next_token(text, cursor);
     Stepped {
         number: 0,
-        value: end,
+        value: l.end,
         token: Token {
-            kind: kind_of(l),
+            kind: l.kind,
             start: cursor as u32,
-            end: end as u32,
+            end: l.end as u32,
         },
-        cursor: end,
+        cursor: l.end,
     }
 }
