@@ -37,10 +37,6 @@ pub word_none : (d : Bool) → word_with d no_code ≡ false
 word_none true = rw alphanumeric_none
 word_none false = rw alphanumeric_none
 
-pub word_past : (d : Bool) (c : ℕ) → 0x80 ≤ c → word_with d c ≡ alphanumeric c
-word_past true c h = simp (ne_eqb c underscore (λ e. omega arith), ne_eqb c dollar (λ e. omega arith), or-false)
-word_past false c h = simp (ne_eqb c underscore (λ e. omega arith), or-false)
-
 -- Each number of a range is a letter: computed at all of them.
 abbrev lettered : ℕ → ℕ → Bool
 lettered lo zero = true

@@ -54,7 +54,3 @@ next_lies s at r h e = let f = step_fits s at h in let n = ap (λ (t : Token). t
 -- what a slice from i on has
 pub rest : (s : List ℕ) (i : ℕ) → take (length s - i) (drop i s) ≡ drop i s
 rest s i = take_all (length s - i) (drop i s) (omega (arith, length-drop i s))
-
--- the whole text, as a slice of itself
-pub sliced : (s : List ℕ) → take (length s - 0) s ≡ s
-sliced s = take_all (length s - 0) s (omega arith)

@@ -267,6 +267,7 @@ pub struct Opened {
 }
 
 // `0x` before a hex digit, `0b` before 0 or 1, or the digit that starts the token, which belongs to no run.
+#[tactic(auto, using(std::proofs::lemmas::Bool::Decides::nat_tests, crate::proofs::Numbers::opened_at))]
 fn read_opening(text: &[u8], start: usize) -> Opened
     requires { (start < length text.now) × (get_or text.now start 0 < 0x80) }
     ensures fits { start + result.size ≤ length text.now }
