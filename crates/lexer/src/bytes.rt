@@ -1,9 +1,7 @@
 // What bytes are, alone or with the ones beside them, and runs of them.
-ghost use Rattle.std.specs.Prelude.{◌≡◌, not, cond, ◌&&◌, ◌+◌, ◌≤◌, ◌<◌, length, get_or, ltb, eqb, [], ◌∷◌, ◌≢◌, MatchOption};
+ghost use Rattle.std.specs.Prelude.{◌≡◌, not, ◌&&◌, ◌+◌, ◌≤◌, ◌<◌, length, ltb, eqb, [], ◌∷◌, ◌≢◌, MatchOption};
 ghost use Rattle.rules.specs.Classes.{white_space, digit, hex_digit};
-ghost use Rattle.rules.specs.Characters.{dollar};
 ghost use Rattle.rules.specs.Kinds.{NoToken};
-ghost use Rattle.rules.specs.Lexeme.{two};
 ghost use Rattle.rules.specs.Operators.{pair, spaceship};
 ghost use Rattle.runs.specs.Classes.{Skips};
 ghost use Rattle.rules.specs.Dollars.{tag_byte};

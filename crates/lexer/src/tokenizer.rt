@@ -1,7 +1,7 @@
 // The readers, under the Rust's names and in its order. Each takes the text and an offset; none needs the text to be UTF-8.
 ghost use Rattle.std.specs.Prelude.{◌≡◌, Bool, true, false, ◌&&◌, ◌+◌, ◌-◌, ◌≤◌, ◌<◌, length, get_or, take, drop, eqb, ◌≢◌, MatchOption};
-ghost use Rattle.rules.specs.Utf8.{char_at, chars};
-ghost use Rattle.rules.specs.Classes.{white_space, alphabetic, digit, hex_digit};
+ghost use Rattle.rules.specs.Utf8.{chars};
+ghost use Rattle.rules.specs.Classes.{white_space, alphabetic, digit};
 ghost use Rattle.rules.specs.Characters.{dollar, underscore, backslash};
 ghost use Rattle.rules.specs.Kinds.{NoToken, Comment, ErrorMultilineCommentIsNotClosed};
 ghost use Rattle.rules.specs.Lexeme.{first, run, enclosed};
@@ -367,9 +367,6 @@ fn starts_suffix(text: &[u8], at: usize) -> bool
     ensures { result ≡ starts_suffix (first (chars (drop at text.now))) }
 {
     let c = unit_code(unit_at(text, at));
-    if is_common_letter(c) {
-        return true;
-    }
     classes::is_alphabetic(c) | (c == 0x5F)
 }
 
