@@ -5,11 +5,11 @@ use native.Mathlib.Omega.{arith}
 use native.Mathlib.Nat.{eq-or-lt_of_le}
 use mathlib.Core.Logic.{⊎_elim}
 use mathlib.Core.Path.{◌≡◌, refl, sym, ap, ◌∙◌}
-use mathlib.Core.Bool.{Bool, true, false, ◌&&◌, ◌||◌, or-false, and-false}
+use mathlib.Core.Bool.{Bool, true, false, ◌&&◌, ◌||◌, and-false}
 use lib.Dec.{ltb, eqb}
 use borrow.Author.Tests.{ne_eqb, lt-leb, ltb-true, ltb-false, lt-ltb}
 use Rattle.rules.specs.Utf8.{within, no_code}
-use Rattle.rules.specs.Characters.{underscore, dollar}
+use Rattle.rules.specs.Characters.{underscore}
 use Rattle.rules.specs.Tables.{alphabetic_table, numeric_table}
 use Rattle.rules.specs.Classes.{in_ranges, white_space, alphabetic, numeric, alphanumeric}
 use Rattle.rules.specs.Words.{word_character}

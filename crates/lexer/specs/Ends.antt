@@ -15,7 +15,6 @@ use Rattle.lexer.specs.declared.tokenizer.Opened.{Opened}
 abbrev pub ends_at : ℕ → Lexeme → Lexed
 ends_at at l = record { kind = l.kind; end = at + l.size }
 
-
 -- How a number opens.
 abbrev pub opened : Opening → Opened
 opened o = record { hex = o.hex; size = o.size }

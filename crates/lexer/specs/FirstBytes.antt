@@ -1,5 +1,5 @@
 -- What the first byte of a token tells of its kind.
-use Rattle.std.specs.Prelude.{ℕ, ◌+◌, ◌*◌, ◌<◌, ◌≡◌, List, [], ◌∷◌, Bool, false, cond, ◌||◌, ltb, eqb}
+use Rattle.std.specs.Prelude.{ℕ, ◌+◌, ◌<◌, ◌≡◌, List, [], ◌∷◌, Bool, false, cond, ◌||◌, ltb, eqb}
 use Rattle.rules.specs.Utf8.{within}
 use Rattle.rules.specs.Classes.{white_space, digit}
 use Rattle.rules.specs.Characters.{exclamation, double_quote, dollar, quote, dash, slash, colon, less, equals, greater, at, backslash, back_quote, bar}

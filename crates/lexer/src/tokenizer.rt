@@ -167,10 +167,7 @@ fn read_longer(text: &[u8], start: usize, kind: u32) -> Lexed
     ensures { result ≡ ends_at start (lexeme (after_dot_at text.now start) (drop start text.now)) }
 {
     match (text[start], byte_at(text, start + 1)) {
-        (b'-', b'-') => Lexed::new(
-            SyntaxKind::Comment,
-            read_single_line_comment(text, start),
-        ),
+        (b'-', b'-') => Lexed::new(SyntaxKind::Comment, read_single_line_comment(text, start)),
         (b'/', b'*') => read_multi_line_comment(text, start + 2),
         _ => read_operator(text, start, kind),
     }
@@ -463,7 +460,10 @@ fn tag_end(text: &[u8], at: usize) -> usize
 {
     let from = skip_words(text, at);
     let rest = &text[from..];
-    from + rest.iter().position(|b| !is_tag_byte(*b)).unwrap_or(rest.len())
+    from + rest
+        .iter()
+        .position(|b| !is_tag_byte(*b))
+        .unwrap_or(rest.len())
 }
 
 // Whether the delimiter stands at `at`.

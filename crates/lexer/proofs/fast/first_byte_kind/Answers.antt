@@ -1,5 +1,5 @@
 -- The table, against the definition: computed at all 256 bytes.
-use Rattle.std.proofs.Common.{◌≡◌, ℕ, true, get_or, eqb, refl}
+use Rattle.std.proofs.Common.{true, get_or, eqb, refl}
 use Rattle.rules.specs.Operators.{single}
 use Rattle.rules.proofs.Tests.{eqb-true}
 use Rattle.rules.proofs.Tables.{agree_at}

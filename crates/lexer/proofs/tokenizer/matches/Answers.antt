@@ -1,5 +1,5 @@
 -- The bytes begin with the delimiter where the characters do.
-use Rattle.std.proofs.Common.{◌≡◌, ℕ, zero, suc, ◌+◌, ◌<◌, ◌≤◌, Bool, true, false, ◌&&◌, List, [], ◌∷◌, length, get_or, take, drop, refl, sym, ap, ◌∙◌, arith, eqb, add-one, drop-cons}
+use Rattle.std.proofs.Common.{◌≡◌, ℕ, suc, ◌+◌, ◌<◌, Bool, true, false, ◌&&◌, List, [], ◌∷◌, length, get_or, take, drop, refl, sym, ap, ◌∙◌, arith, eqb, add-one, drop-cons}
 use Rattle.std.specs.Cmp.Lexicographic.{pointwise}
 use native.Mathlib.Decide.{dec_lt}
 use lib.ListN.{drop_of_length-le, get_or-eq_default}

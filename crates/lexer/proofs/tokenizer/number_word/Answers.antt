@@ -1,5 +1,5 @@
 -- The number stops, or goes on as a word or as an error.
-use Rattle.std.proofs.Common.{true, false, refl, ◌∙◌, sym, ap}
+use Rattle.std.proofs.Common.{true, false, refl, ◌∙◌, ap}
 use Rattle.lexer.specs.declared.token.Lexed.{Lexed}
 use Rattle.lexer.proofs.Numbers.{stops, goes}
 use Rattle.lexer.proofs.tokenizer.number_word.Goals as goal

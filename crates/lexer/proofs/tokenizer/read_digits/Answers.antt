@@ -1,5 +1,5 @@
 -- One digit, or one `_` between two, a turn.
-use Rattle.std.proofs.Common.{false, length, sym, ◌∙◌, arith}
+use Rattle.std.proofs.Common.{sym, arith}
 use Rattle.rules.specs.Numbers.{radix_digit}
 use Rattle.rules.proofs.Tests.{clash}
 use Rattle.rules.proofs.NumberBytes.{digits_end, byte_stop, byte-turn, radix_high, radix_none}

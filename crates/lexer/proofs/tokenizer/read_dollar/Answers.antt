@@ -1,7 +1,6 @@
 -- The tag, and the delimiter that is found again.
-use Rattle.std.proofs.Common.{◌≡◌, sym, ◌∙◌, arith}
-use Rattle.rules.proofs.HereDocs.{opening_size}
-use Rattle.lexer.proofs.HereDocs.{no_tag, tag_closed, opens, not_found, here_found}
+use Rattle.std.proofs.Common.{sym, ◌∙◌}
+use Rattle.lexer.proofs.HereDocs.{no_tag, not_found, here_found}
 use Rattle.lexer.proofs.tokenizer.read_dollar.Goals as goal
 
 pub returns-then-byte_at-ne36 : goal.returns-then-byte_at-ne36

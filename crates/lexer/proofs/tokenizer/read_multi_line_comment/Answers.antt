@@ -1,8 +1,8 @@
 -- A law of comments for each turn.
-use Rattle.std.proofs.Common.{◌≡◌, ◌+◌, ◌<◌, false, true, length, get_or, sym, ◌∙◌, arith}
+use Rattle.std.proofs.Common.{◌≡◌, ◌+◌, false, true, sym, ◌∙◌, arith}
 use Rattle.std.proofs.lemmas.Bool.Decides.{nat_tests}
 use Rattle.rules.specs.Characters.{star, slash}
-use Rattle.lexer.proofs.Comments.{comment_at, pair, pair_inside, comment_end, comment_done, comment_shallower, comment_deeper, comment_on, comment_over}
+use Rattle.lexer.proofs.Comments.{pair, pair_inside, comment_end, comment_done, comment_shallower, comment_deeper, comment_on, comment_over}
 use Rattle.lexer.proofs.tokenizer.read_multi_line_comment.Goals as goal
 use Rattle.lexer.proofs.tokenizer.read_multi_line_comment.Goals.{in_default-via-in-42+in_default, in_default-via-in-47+in_default, in_default-via-in_default}
 
@@ -30,8 +30,7 @@ pub loop-j-preserved : goal.loop-j-preserved
 loop-j-preserved c =
     let s = c.args.text.now in
     let x : pair s c.loop-j.j star slash ≡ false = elim c.in_default.branch [ in_default-via-in-42+in_default w ↦ grind (arith, nat_tests) | in_default-via-in-47+in_default w ↦ grind (arith, nat_tests) | in_default-via-in_default w ↦ grind (arith, nat_tests) ] in
-    let y : pair s c.loop-j.j slash star ≡ false = elim c.in_default.branch [ in_default-via-in-42+in_default w ↦ grind (arith, nat_tests) | in_default-via-in-47+in_default w ↦ grind (arith, nat_tests) | in_default-via-in_default w ↦ grind (arith, nat_tests) ] in
-    (
+    let y : pair s c.loop-j.j slash star ≡ false = elim c.in_default.branch [ in_default-via-in-42+in_default w ↦ grind (arith, nat_tests) | in_default-via-in-47+in_default w ↦ grind (arith, nat_tests) | in_default-via-in_default w ↦ grind (arith, nat_tests) ] in (
       comment_over s (c.loop-j.j + 1) _ c.loop-j.deeper c.skip_to_either-j-in_default.ensures ∙ sym (comment_on s c.loop-j.j (omega arith) c.loop-j.deeper x y) ∙ c.loop-j.invariant.0,
       omega (arith, c.skip_to_either-j-in_default.ensures.from),
       omega (arith, c.skip_to_either-j-in_default.ensures.upto),

@@ -1,5 +1,5 @@
 -- By the code of the character, or of none.
-use Rattle.std.proofs.Common.{◌≡◌, ◌≢◌, ◌+◌, ◌<◌, ◌≤◌, ℕ, Bool, List, length, drop, get_or, inr, sym, ap, ◌∙◌, arith}
+use Rattle.std.proofs.Common.{◌≡◌, ◌+◌, ◌<◌, ◌≤◌, ℕ, List, length, drop, inr, sym, ap, ◌∙◌, arith}
 use Rattle.rules.specs.Utf8.{Char, width, char_at, chars}
 use Rattle.rules.specs.Classes.{white_space}
 use Rattle.rules.specs.Characters.{quote_close, double_quote_close}
@@ -7,7 +7,7 @@ use Rattle.rules.specs.Kinds.{StringToken, QuotedIdentifier, ErrorSingleQuoteIsN
 use Rattle.rules.specs.Lexeme.{first, is, enclosed}
 use Rattle.rules.specs.Operators.{single}
 use Rattle.rules.specs.Quotes.{up_to}
-use Rattle.rules.specs.Tokens.{lexeme, after_dot_at}
+use Rattle.rules.specs.Tokens.{after_dot_at}
 use Rattle.rules.proofs.Decoding.{chars-at, fits_at, some_left}
 use Rattle.rules.proofs.RuleBytes.{wide_spaces, wide_quote, wide_double_quote, wide_other, single_wide, wide_code}
 use Rattle.utf8.specs.declared.Unit.{Unit}

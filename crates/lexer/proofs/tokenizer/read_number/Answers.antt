@@ -1,9 +1,9 @@
 -- After a dot digits only; else the opening, the whole part, the fraction and the exponent.
-use Rattle.std.proofs.Common.{◌≡◌, ℕ, ◌+◌, ◌<◌, Bool, true, false, List, length, get_or, drop, refl, sym, ap, ◌∙◌, arith}
+use Rattle.std.proofs.Common.{◌≡◌, ℕ, ◌+◌, ◌<◌, Bool, true, false, List, length, get_or, drop, sym, ap, ◌∙◌, arith}
 use Rattle.rules.specs.Utf8.{Char, chars}
 use Rattle.rules.specs.Classes.{digit}
 use Rattle.rules.specs.Numbers.{digits, opening, radix_digit, fraction, Figures, exponent, figures}
-use Rattle.rules.proofs.NumberBytes.{digit_ascii, figures-lead, figures-dot, figures_by}
+use Rattle.rules.proofs.NumberBytes.{figures-lead, figures-dot, figures_by}
 use Rattle.lexer.specs.declared.tokenizer.Opened.{Opened}
 use Rattle.lexer.specs.Ends.{opened, AsciiTo}
 use Rattle.lexer.proofs.Ends.{is_well, is_wrong}

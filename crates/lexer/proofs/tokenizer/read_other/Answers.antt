@@ -1,8 +1,8 @@
 -- A quote, a here-document, or a character past ASCII.
-use Rattle.std.proofs.Common.{◌≡◌, ◌+◌, ℕ, List, [], ◌∷◌, false, drop, get_or, sym, ap, ◌∙◌, arith}
+use Rattle.std.proofs.Common.{◌≡◌, ◌+◌, ℕ, List, false, drop, get_or, sym, ap, ◌∙◌, arith}
 use Rattle.std.proofs.lemmas.Bool.Decides.{nat_tests}
 use Rattle.rules.specs.Utf8.{chars}
-use Rattle.rules.specs.Characters.{double_quote, dollar, quote, back_quote}
+use Rattle.rules.specs.Characters.{double_quote, quote, back_quote}
 use Rattle.rules.specs.Kinds.{StringToken, QuotedIdentifier, ErrorSingleQuoteIsNotClosed, ErrorDoubleQuoteIsNotClosed, ErrorBackQuoteIsNotClosed}
 use Rattle.rules.specs.Lexeme.{enclosed}
 use Rattle.rules.specs.Quotes.{quoted_body}

@@ -1,5 +1,5 @@
 -- A law of such bodies for each turn.
-use Rattle.std.proofs.Common.{◌≡◌, ◌+◌, List, length, drop, sym, ap, ◌∙◌, arith}
+use Rattle.std.proofs.Common.{sym, ap, ◌∙◌, arith}
 use Rattle.rules.specs.Quotes.{up_to}
 use Rattle.rules.proofs.Bodies.{curly_at, up_to_shut, up_to_pass, up_to_empty}
 use Rattle.lexer.specs.Quotes.{curly_close}
