@@ -4,6 +4,9 @@ use Rattle.std.proofs.Math.Option.{none}
 use Rattle.rules.specs.Utf8.{chars}
 use Rattle.rules.specs.Characters.{dollar}
 use Rattle.rules.specs.Dollars.{here_doc}
+use Rattle.rules.specs.Tokens.{lexeme, after_dot_at}
+use Rattle.lexer.specs.Ends.{ends_at}
+use Rattle.ahead.specs.declared.Found.{Found}
 
 -- A `$` at an offset begins no here-document.
 abbrev pub Lone : List ℕ → ℕ → Type 0
@@ -35,7 +38,10 @@ Marked s from until words = (at : ℕ) → from ≤ at → marked until words at
 abbrev pub look_after : ℕ
 look_after = 125000
 
--- What a token's search counts for: bit 38 of its number says that it was in vain, and it went from the token's end to the text's. The longer the text,
--- the less a byte counts.
-abbrev pub wasted_by : ℕ → ℕ → ℕ
-wasted_by lexed size = cond (lexed / 2 ^ 38 % 2 == 0) 0 ((size - lexed % 2 ^ 32) / (size / 20000 + 1))
+-- The token at an offset was found.
+abbrev pub Lexes : List ℕ → ℕ → Found → Type 0
+Lexes s at f = f.token ≡ ends_at at (lexeme (after_dot_at s at) (drop at s))
+
+-- What a token's search counts for: where it was in vain, it went from the token's end to the text's. The longer the text, the less a byte counts.
+abbrev pub wasted_by : Found → ℕ → ℕ
+wasted_by found size = cond found.vain ((size - found.token.end) / (size / 20000 + 1)) 0

@@ -6,18 +6,17 @@
 // the pass makes of the tags may hold anything.
 #![tactic(auto)]
 
-ghost use Rattle.std.specs.Prelude.{◌≡◌, ◌+◌, ◌<◌, ◌≤◌, true, length, drop, slice_index};
+ghost use Rattle.std.specs.Prelude.{◌≡◌, ℕ, List, ◌+◌, ◌<◌, ◌≤◌, true, length, drop, slice_index};
 ghost use Rattle.rules.specs.Dollars.{tag_byte};
 ghost use Rattle.rules.specs.Limits.{max_query_size};
 ghost use Rattle.rules.specs.Characters.{dollar};
-ghost use Rattle.lexer.specs.Ends.{Lexes};
 ghost use Rattle.lexer.specs.HereDocs.{TagEnd};
 ghost use Rattle.ahead.specs.Slots.{slots, key_at, table_size, mixed, hash_from, start_of, word_of, may_hold, probed, slot_of, slot_from, Seen};
-ghost use Rattle.ahead.specs.Marks.{Lone, LoneWord, LoneWords, LoneUntil, marked, Marked, wasted_by};
+ghost use Rattle.ahead.specs.Marks.{Lone, LoneWord, LoneWords, LoneUntil, marked, Marked, Lexes, wasted_by};
 
 use lexer::bytes::is_tag_byte;
 use lexer::syntax_kind::SyntaxKind;
-use lexer::token::{end_of, join, kind_of};
+use lexer::token::Lexed;
 use lexer::tokenizer::next_token;
 use runs::eight;
 use std::num::wrapping_add_u64;
@@ -394,17 +393,33 @@ pub fn look_ahead(text: &[u8], from: usize, lone: &mut [u64]) -> usize
     until
 }
 
-fn is_marked(until: usize, lone: &[u64], at: usize) -> bool
-    ensures { result ≡ marked until lone.now at }
-{
-    if at < until {
-        return true;
+// What the last look ahead found out: no `$` before `until` begins a here-document, and none from there on whose bit is set.
+#[derive(Clone, Copy)]
+pub struct Marks<'a> {
+    pub until: usize,
+    pub lone: &'a [u64],
+}
+
+impl Marks<'_> {
+    // Before the first look.
+    pub fn none() -> Marks<'static>
+        ensures { (s : List ℕ) (from : ℕ) → Marked s from result.until result.lone.now }
+    {
+        Marks { until: 0, lone: &[] }
     }
-    let k = at - until;
-    if lone.len() <= k / 64 {
-        return false;
+
+    fn has(self, at: usize) -> bool
+        ensures { result ≡ marked self.entry.until self.entry.lone.now at }
+    {
+        if at < self.until {
+            return true;
+        }
+        let k = at - self.until;
+        if self.lone.len() <= k / 64 {
+            return false;
+        }
+        (self.lone[k / 64] >> (k % 64)) % 2 == 1
     }
-    (lone[k / 64] >> (k % 64)) % 2 == 1
 }
 
 // Whether the tag at `at` is closed, so that a here-document's end was looked for.
@@ -419,37 +434,41 @@ fn is_closed(text: &[u8], at: usize) -> bool {
     false
 }
 
-// What a search in vain for a here-document's end counts for, in a text of `size` bytes: bit 38 says that there was one, from the token's end on. A look
-// takes longer in a longer text, so a byte there counts for less: after 125,000 bytes of a short text, or some six times the length of a long one, a look
-// costs no more than the searches did.
-pub fn wasted_by(lexed: u64, size: usize) -> usize
-    ensures { (result ≡ wasted_by lexed size) × (result ≤ size) }
+// A token that was read, and whether a here-document's end was looked for in vain, from the token's end to the text's.
+#[derive(Clone, Copy)]
+pub struct Found {
+    pub token: Lexed,
+    pub vain: bool,
+}
+
+// What a search in vain counts for, in a text of `size` bytes. A look takes longer in a longer text, so a byte there counts for less: after 125,000 bytes
+// of a short text, or some six times the length of a long one, a look costs no more than the searches did.
+pub fn wasted_by(found: Found, size: usize) -> usize
+    ensures { (result ≡ wasted_by found size) × (result ≤ size) }
 {
-    if lexed / 0x40_0000_0000 % 2 == 0 {
+    if !found.vain {
         return 0;
     }
-    if size < end_of(lexed) {
-        return 0;
-    }
-    (size - end_of(lexed)) / (size / 20_000 + 1)
+    size.saturating_sub(found.token.end) / (size / 20_000 + 1)
 }
 
 // When the searches in vain count for so much, it pays to look ahead.
 pub const LOOK_AFTER: usize = 125_000;
 
-// The token at a `$`, as `lexer::tokenizer::next_token` has it. `until` and `lone` are what the last look gave, and at first 0 and no bits.
-pub fn read_dollar(text: &[u8], start: usize, until: usize, lone: &[u64]) -> u64
-    requires { (length text.now ≤ max_query_size) × (start < length text.now) × (slice_index text.now start ≡ dollar) × Marked text.now start until lone.now }
+// The token at a `$`, as `lexer::tokenizer::next_token` has it.
+pub fn read_dollar(text: &[u8], start: usize, marks: Marks) -> Found
+    requires { (length text.now ≤ max_query_size) × (start < length text.now) × (slice_index text.now start ≡ dollar) × Marked text.now start marks.until marks.lone.now }
     ensures { Lexes text.now start result }
 {
-    if is_marked(until, lone, start) {
-        return join(SyntaxKind::DollarSign, start + 1);
+    if marks.has(start) {
+        return Found {
+            token: Lexed::new(SyntaxKind::DollarSign, start + 1),
+            vain: false,
+        };
     }
-    let lexed = next_token(&text[0..], start);
-    if kind_of(lexed) == SyntaxKind::DollarSign {
-        if is_closed(text, end_of(lexed)) {
-            return lexed + 0x40_0000_0000;
-        }
+    let token = next_token(text, start);
+    Found {
+        token,
+        vain: token.kind == SyntaxKind::DollarSign && is_closed(text, token.end),
     }
-    lexed
 }

@@ -2,17 +2,15 @@
 use Prim.Native.Nat.{ℕ, zero, suc, ◌+◌, ◌*◌, ◌/◌, ◌^◌, ◌<◌}
 use native.Mathlib.Omega.{arith}
 use mathlib.Core.Path.{◌≡◌, refl, sym, ap, ap₂, ◌∙◌}
-use mathlib.Core.List.{List, [], ◌∷◌, ◌++◌}
+use mathlib.Core.List.{List, [], ◌∷◌, ◌++◌, map}
 use mathlib.Core.Bool.{Bool, true, false, cond}
-use lib.ListN.{length}
-use lib.Bits.{bit_and, bit_xor, xor_comm, xor_shifted}
+use lib.ListN.{length, length-append}
+use Rattle.std.proofs.Common.{add-one}
+use Rattle.std.proofs.lemmas.List.{length-map}
+use lib.Bits.{bit_and, bit_xor, xor_assoc, xor_comm, xor_shifted}
 use Rattle.blocks.specs.Sets.{set}
 use Rattle.blocks.specs.Turns.{swap, turn}
-use Rattle.blocks.proofs.Xors.{xor_assoc, Linear, shr_linear, shl_linear, and_linear, xor_linear, then_linear, id_linear}
-
-unfoldable pub each : (ℕ → ℕ) → List ℕ → List ℕ
-each g [] = []
-each g (v ∷ vs) = g v ∷ each g vs
+use Rattle.blocks.proofs.Xors.{Linear, shr_linear, shl_linear, and_linear, xor_linear, then_linear, id_linear}
 
 -- The numbers of the offsets of which f holds, the first offset's first, joined.
 unfoldable pub span : List ℕ → (ℕ → Bool) → ℕ → ℕ
@@ -21,16 +19,16 @@ span (v ∷ vs) f p = bit_xor (cond (f p) v 0) (span vs f (p + 1))
 
 unfoldable pub powers : ℕ → List ℕ
 powers zero = []
-powers (suc n) = 1 ∷ each (λ a. a * 2 ^ 1) (powers n)
+powers (suc n) = 1 ∷ map (λ a. a * 2 ^ 1) (powers n)
 
 -- the high bit of each of n bytes
 unfoldable pub lanes : ℕ → List ℕ
 lanes zero = []
-lanes (suc n) = 0x80 ∷ each (λ a. a * 2 ^ 8) (lanes n)
+lanes (suc n) = 0x80 ∷ map (λ a. a * 2 ^ 8) (lanes n)
 
 module _ (f : ℕ → Bool) where
-  pub span_each : (g : ℕ → ℕ) → Linear g → (vs : List ℕ) (p : ℕ) → g (span vs f p) ≡ span (each g vs) f p
-  unfolding span each
+  pub span_each : (g : ℕ → ℕ) → Linear g → (vs : List ℕ) (p : ℕ) → g (span vs f p) ≡ span (map g vs) f p
+  unfolding span
   span_each g l [] p = l.none
   span_each g l (v ∷ vs) p = l.both (cond (f p) v 0) (span vs f (p + 1)) ∙ ap₂ bit_xor (go (f p)) (span_each g l vs (p + 1))
     where
@@ -79,33 +77,36 @@ abbrev under : ℕ → ℕ → ℕ
 under t m = bit_xor (t / 2) m
 
 rowed : List ℕ → List ℕ
-unfolding each lanes
-rowed vs = each half vs ++ lanes 8
+unfolding lanes
+rowed vs = map half vs ++ lanes 8
 
-columns : List ℕ
-columns = rowed (rowed (rowed (rowed (rowed (rowed (rowed (lanes 8)))))))
+-- so many rows
+pub columns : ℕ → List ℕ
+columns zero = []
+columns (suc n) = rowed (columns n)
+
+length-columns : (n : ℕ) → length (columns n) ≡ 8 * n
+unfolding lanes rowed columns
+length-columns zero = refl
+length-columns (suc n) = length-append (map half (columns n)) (lanes 8) ∙ omega (arith, length-map (columns n) half, length-columns n)
 
 -- each bit goes where it should: computed
-all_turned : each turn columns ≡ powers 64
-unfolding each lanes powers rowed columns
+all_turned : map turn (columns 8) ≡ powers 64
+unfolding lanes powers rowed columns
 all_turned = refl
 
 module _ (f : ℕ → Bool) (i : ℕ) where
-  row : {t m : ℕ} (vs : List ℕ) (q : ℕ) → t ≡ span vs f i → m ≡ span (lanes 8) f q → q ≡ i + length (each half vs) → under t m ≡ span (rowed vs) f i
-  unfolding rowed
-  row vs q te me e = ap₂ bit_xor (ap half te ∙ span_each f half (shr_linear 1 refl) vs i) me ∙ span_join f (each half vs) (lanes 8) i q e
+  pub no_row : 0 ≡ span (columns 0) f i
+  unfolding span columns
+  no_row = refl
 
-  pub gathered : {a b c d e g h k : ℕ}
-      → a ≡ span (lanes 8) f i → b ≡ span (lanes 8) f (i + 8) → c ≡ span (lanes 8) f (i + 16) → d ≡ span (lanes 8) f (i + 24)
-      → e ≡ span (lanes 8) f (i + 32) → g ≡ span (lanes 8) f (i + 40) → h ≡ span (lanes 8) f (i + 48) → k ≡ span (lanes 8) f (i + 56)
-      → turn (under (under (under (under (under (under (under a b) c) d) e) g) h) k) ≡ set 64 f i
-  unfolding each lanes rowed columns
-  gathered pa pb pc pd pe pg ph pk =
-      let r1 = row (lanes 8) (i + 8) pa pb refl in
-      let r2 = row (rowed (lanes 8)) (i + 16) r1 pc refl in
-      let r3 = row (rowed (rowed (lanes 8))) (i + 24) r2 pd refl in
-      let r4 = row (rowed (rowed (rowed (lanes 8)))) (i + 32) r3 pe refl in
-      let r5 = row (rowed (rowed (rowed (rowed (lanes 8))))) (i + 40) r4 pg refl in
-      let r6 = row (rowed (rowed (rowed (rowed (rowed (lanes 8)))))) (i + 48) r5 ph refl in
-      let r7 = row (rowed (rowed (rowed (rowed (rowed (rowed (lanes 8))))))) (i + 56) r6 pk refl in
-      ap turn r7 ∙ span_each f turn turn_linear columns i ∙ ap (λ (vs : List ℕ). span vs f i) all_turned ∙ span_set f 64 i
+  -- one row more
+  pub row : {t m : ℕ} (n : ℕ) → t ≡ span (columns n) f i → m ≡ span (lanes 8) f (i + 8 * n) → under t m ≡ span (columns (n + 1)) f i
+  unfolding rowed columns
+  row n te me =
+      let e : i + 8 * n ≡ i + length (map half (columns n)) = omega (arith, length-map (columns n) half, length-columns n) in
+      rw add-one
+      (ap₂ bit_xor (ap half te ∙ span_each f half (shr_linear 1 refl) (columns n) i) me ∙ span_join f (map half (columns n)) (lanes 8) i (i + 8 * n) e)
+
+  pub gathered : {t : ℕ} → t ≡ span (columns 8) f i → turn t ≡ set 64 f i
+  gathered e = ap turn e ∙ span_each f turn turn_linear (columns 8) i ∙ ap (λ (vs : List ℕ). span vs f i) all_turned ∙ span_set f 64 i

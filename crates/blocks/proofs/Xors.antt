@@ -5,7 +5,7 @@ use native.Mathlib.Nat.{add-zero, zero-mul}
 use mathlib.Core.Path.{◌≡◌, refl, sym, ap, ap₂, ◌∙◌}
 use mathlib.Core.Logic.{◌⊎◌, inl, inr}
 use lib.Arith.{bin_ind}
-use lib.Bits.{bit_and, bit_xor, differ, and_step, xor_step, xor_comm, xor_shr, xor_block}
+use lib.Bits.{bit_and, bit_xor, differ, and_step, xor_step, xor_assoc, xor_comm, xor_shr, xor_block}
 
 -- a digit is 0 or 1
 pub digit-cases : (x : ℕ) → x < 2 → (x ≡ 0) ⊎ (x ≡ 1)
@@ -15,16 +15,6 @@ digit-cases (suc (suc x)) h = absurd (omega arith)
 
 odd_cases : (a : ℕ) → (a % 2 ≡ 0) ⊎ (a % 2 ≡ 1)
 odd_cases a = digit-cases (a % 2) (omega arith)
-
-differ_assoc : (x y z : ℕ) → (x ≡ 0) ⊎ (x ≡ 1) → (y ≡ 0) ⊎ (y ≡ 1) → (z ≡ 0) ⊎ (z ≡ 1) → differ (differ x y) z ≡ differ x (differ y z)
-differ_assoc x y z (inl a) (inl b) (inl c) = rw (a, b, c) refl
-differ_assoc x y z (inl a) (inl b) (inr c) = rw (a, b, c) refl
-differ_assoc x y z (inl a) (inr b) (inl c) = rw (a, b, c) refl
-differ_assoc x y z (inl a) (inr b) (inr c) = rw (a, b, c) refl
-differ_assoc x y z (inr a) (inl b) (inl c) = rw (a, b, c) refl
-differ_assoc x y z (inr a) (inl b) (inr c) = rw (a, b, c) refl
-differ_assoc x y z (inr a) (inr b) (inl c) = rw (a, b, c) refl
-differ_assoc x y z (inr a) (inr b) (inr c) = rw (a, b, c) refl
 
 differ_min : (x y z : ℕ) → (x ≡ 0) ⊎ (x ≡ 1) → (y ≡ 0) ⊎ (y ≡ 1) → (z ≡ 0) ⊎ (z ≡ 1) → min (differ x y) z ≡ differ (min x z) (min y z)
 differ_min x y z (inl a) (inl b) (inl c) = rw (a, b, c) refl
@@ -60,15 +50,6 @@ and-digits a b = digit_of _ _ _ (and_step a b) (min_digit (a % 2) (b % 2) (odd_c
 
 join : {r s c d : ℕ} → r ≡ s → c ≡ d → r * 2 + c ≡ s * 2 + d
 join p q = ap₂ (λ (x y : ℕ). x * 2 + y) p q
-
-pub xor_assoc : (a b c : ℕ) → bit_xor (bit_xor a b) c ≡ bit_xor a (bit_xor b c)
-xor_assoc a =
-    bin_ind (λ (n : ℕ). (b c : ℕ) → bit_xor (bit_xor n b) c ≡ bit_xor n (bit_xor b c)) (λ b c. refl)
-    (λ n ih b c.
-    xor_step (bit_xor n b) c
-    ∙ join (ap (λ (x : ℕ). bit_xor x (c / 2)) (xor-digits n b).0 ∙ ih (b / 2) (c / 2) ∙ ap (bit_xor (n / 2)) (sym (xor-digits b c).0))
-    (ap (λ (x : ℕ). differ x (c % 2)) (xor-digits n b).1 ∙ differ_assoc (n % 2) (b % 2) (c % 2) (odd_cases n) (odd_cases b) (odd_cases c) ∙ ap (differ (n % 2)) (sym (xor-digits b c).1))
-    ∙ sym (xor_step n (bit_xor b c))) a
 
 pub and_xor : (a b m : ℕ) → bit_and (bit_xor a b) m ≡ bit_xor (bit_and a m) (bit_and b m)
 and_xor a =

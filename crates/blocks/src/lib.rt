@@ -2,30 +2,11 @@
 #![tactic(auto)]
 
 ghost use Rattle.std.specs.Prelude.{◌≡◌, ◌+◌, ◌*◌, ◌%◌, ◌≤◌, ◌^◌, length};
-ghost use Rattle.runs.specs.Lanes.{packed, others as others_of};
 ghost use Rattle.blocks.specs.Sets.{set};
 ghost use Rattle.blocks.specs.Turns.{swap, turn};
-ghost use Rattle.blocks.specs.Edges.{word_edges, figure_edges, outside, edge_after};
+ghost use Rattle.blocks.specs.Edges.{outside, edge_after};
 
-use runs::{eight, others};
-
-// The high bits of those of eight bytes that are no word's.
-fn no_words(text: &[u8], at: usize) -> u64
-    requires { at + 8 ≤ length text.now }
-    ensures { result ≡ others_of 8 word_edges (packed 8 text.now at) }
-{
-    let k = [b'0', b':', b'A', b'[', b'_', b'`', b'a', b'{'];
-    others(eight(text, at), k)
-}
-
-// The high bits of those that are neither digits nor white space.
-fn no_figures(text: &[u8], at: usize) -> u64
-    requires { at + 8 ≤ length text.now }
-    ensures { result ≡ others_of 8 figure_edges (packed 8 text.now at) }
-{
-    let k = [b'\t', 14, b' ', b'!', b'0', b':', 0, 0];
-    others(eight(text, at), k)
-}
+use runs::{Class, eight, others};
 
 // Eight rows of bits, turned: a bit of the row j and the column k goes to the row k and the column j.
 fn turned(t: u64) -> u64
@@ -39,36 +20,16 @@ fn turned(t: u64) -> u64
     (t ^ d) ^ d * 0x1000_0000
 }
 
-// Of the 64 bytes from `at` on, those that are no word's.
-fn word_bits(text: &[u8], at: usize) -> u64
+// Of the 64 bytes from `at` on, those that are not in the class.
+fn bits(text: &[u8], at: usize, class: Class) -> u64
     requires { at + 64 ≤ length text.now }
-    ensures { result ≡ set 64 (outside word_edges text.now) at }
+    ensures { result ≡ set 64 (outside class.edges text.now) at }
 {
-    let t = no_words(text, at);
-    let t = (t >> 1) ^ no_words(text, at + 8);
-    let t = (t >> 1) ^ no_words(text, at + 16);
-    let t = (t >> 1) ^ no_words(text, at + 24);
-    let t = (t >> 1) ^ no_words(text, at + 32);
-    let t = (t >> 1) ^ no_words(text, at + 40);
-    let t = (t >> 1) ^ no_words(text, at + 48);
-    let t = (t >> 1) ^ no_words(text, at + 56);
-    turned(t)
-}
-
-// Those that are neither digits nor white space.
-fn figure_bits(text: &[u8], at: usize) -> u64
-    requires { at + 64 ≤ length text.now }
-    ensures { result ≡ set 64 (outside figure_edges text.now) at }
-{
-    let t = no_figures(text, at);
-    let t = (t >> 1) ^ no_figures(text, at + 8);
-    let t = (t >> 1) ^ no_figures(text, at + 16);
-    let t = (t >> 1) ^ no_figures(text, at + 24);
-    let t = (t >> 1) ^ no_figures(text, at + 32);
-    let t = (t >> 1) ^ no_figures(text, at + 40);
-    let t = (t >> 1) ^ no_figures(text, at + 48);
-    let t = (t >> 1) ^ no_figures(text, at + 56);
-    turned(t)
+    let mut rows = 0;
+    for k in 0..8 {
+        rows = (rows >> 1) ^ others(eight(text, at + 8 * k), class);
+    }
+    turned(rows)
 }
 
 // Each bit one place up.
@@ -83,8 +44,8 @@ pub fn edges(text: &[u8], at: usize) -> u64
     requires { at + 64 ≤ length text.now }
     ensures { result ≡ set 64 (edge_after text.now at) at }
 {
-    let x = word_bits(text, at);
-    let y = figure_bits(text, at);
+    let x = bits(text, at, Class::WORDS);
+    let y = bits(text, at, Class::FIGURES);
     let a = later(x);
     let b = later(y);
     let no_word = (x | a) | (y & (b ^ 0xFFFF_FFFF_FFFF_FFFF));

@@ -4,4 +4,3 @@ pub mod Sums
 pub mod Lanes
 pub mod Rows
 pub mod Wide
-pub mod Parts

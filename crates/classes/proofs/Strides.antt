@@ -182,6 +182,11 @@ module _ (strides index : List ℕ) (f : Form strides index) where
   pub begins : (i : ℕ) → i < count index → place index i ≤ place index (i + 1)
   begins i l = all_placed.mounts i zero-le (omega arith)
 
+  pub ends : (i : ℕ) → i < count index → place index (i + 1) ≤ length strides
+  ends i l =
+      let e : 0 + count index ≡ count index = omega arith in
+      omega (arith, last_place (i + 1) (omega arith), rw e at all_placed.inside)
+
   size : length (bounds strides index) + place index 0 ≡ count index + place index (count index)
   size = let e : 0 + count index ≡ count index = omega arith in rw e at (bounds-length strides index 0 (count index) tests.1)
 

@@ -1,16 +1,9 @@
 -- The two widest ranges of Alphabetic below U+10000. Assumes nothing.
-use Prim.Native.Nat.{ℕ, ◌+◌, ◌*◌, ◌≤◌, ◌<◌}
-use native.Mathlib.Omega.{arith}
-use mathlib.Core.Path.{◌≡◌, refl, ◌∙◌}
-use mathlib.Core.List.{List}
-use mathlib.Core.Bool.{true, ◌&&◌, ◌||◌}
-use mathlib.Core.Logic.{⊎_elim}
-use lib.ListN.{length, get_or}
-use lib.Dec.{leb, ltb}
-use borrow.Author.Tests.{leb-true, ltb-true}
+use Rattle.std.proofs.Common.{◌≡◌, refl, ◌∙◌, ℕ, ◌+◌, ◌*◌, ◌≤◌, ◌<◌, List, true, length, get_or, arith}
+use lib.Dec.{ltb}
+use borrow.Author.Tests.{ltb-true}
 use Rattle.rules.specs.Tables.{alphabetic_table}
 use Rattle.rules.specs.Classes.{in_ranges, rises, alphabetic}
-use Rattle.rules.proofs.Tests.{and_both, or_cases}
 use Rattle.rules.proofs.Ranges.{in_order, odd, parity}
 use Rattle.rules.proofs.Tables.{alphabetic-rises}
 
@@ -27,25 +20,23 @@ between t r k c l a b =
 abbrev Range : ℕ → ℕ → ℕ → Type 0
 Range n lo hi = (get_or alphabetic_table (2 * n) 0 ≡ lo) × (get_or alphabetic_table (2 * n + 1) 0 ≡ hi) × (ltb (2 * n + 1) (length alphabetic_table) ≡ true)
 
-ideographs : Range 346 0x4E00 0xA48D
+number_346 : Range 346 0x4E00 0xA48D
 unfolding alphabetic_table
-ideographs = (refl, refl, refl)
+number_346 = (refl, refl, refl)
 
-hangul : Range 390 0xAC00 0xD7A4
+number_390 : Range 390 0xAC00 0xD7A4
 unfolding alphabetic_table
-hangul = (refl, refl, refl)
+number_390 = (refl, refl, refl)
 
-in_range : (n lo hi c : ℕ) → Range n lo hi → odd (2 * n + 1) ≡ true → (leb lo c && ltb c hi) ≡ true → alphabetic c ≡ true
+in_range : (n lo hi c : ℕ) → Range n lo hi → odd (2 * n + 1) ≡ true → lo ≤ c → c < hi → alphabetic c ≡ true
 unfolding alphabetic
-in_range n lo hi c r o h =
-    let b = and_both (leb lo c) (ltb c hi) h in
-    between alphabetic_table alphabetic-rises (2 * n) c (ltb-true (2 * n + 1) (length alphabetic_table) r.2)
-    (omega (arith, r.0, leb-true lo c b.0))
-    (omega (arith, r.1, ltb-true c hi b.1))
-    ∙ o
+in_range n lo hi c r o l h =
+    between alphabetic_table alphabetic-rises (2 * n) c (ltb-true (2 * n + 1) (length alphabetic_table) r.2) (omega (arith, r.0)) (omega (arith, r.1)) ∙ o
 
-pub wide : (c : ℕ) → (leb 0x4E00 c && ltb c 0xA48D || leb 0xAC00 c && ltb c 0xD7A4) ≡ true → alphabetic c ≡ true
+pub ideographs : (c : ℕ) → 0x4E00 ≤ c → c < 0xA48D → alphabetic c ≡ true
 unfolding odd
-wide c h =
-    ⊎_elim (in_range 346 0x4E00 0xA48D c ideographs refl) (in_range 390 0xAC00 0xD7A4 c hangul refl)
-    (or_cases (leb 0x4E00 c && ltb c 0xA48D) (leb 0xAC00 c && ltb c 0xD7A4) h)
+ideographs c = in_range 346 0x4E00 0xA48D c number_346 refl
+
+pub hangul : (c : ℕ) → 0xAC00 ≤ c → c < 0xD7A4 → alphabetic c ≡ true
+unfolding odd
+hangul c = in_range 390 0xAC00 0xD7A4 c number_390 refl

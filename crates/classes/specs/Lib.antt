@@ -1,5 +1,3 @@
--- What the contracts say beside the rules: what strides and checkpoints sum to, and that a lent table holds the classes.
+-- What the contracts say beside the rules: what strides and checkpoints sum to.
 pub mod Strides
-pub mod StrideTable
 pub mod Rows
-pub mod Held

@@ -1,11 +1,11 @@
 // A class by an index of checkpoints and by strides between them.
-ghost use Rattle.std.specs.Prelude.{◌≤◌, ◌<◌, min, ◌≡◌};
+ghost use Rattle.std.specs.Prelude.{◌+◌, ◌≤◌, ◌<◌, ◌≡◌, length};
 ghost use Rattle.rules.specs.Classes.{in_ranges};
-ghost use Rattle.classes.specs.StrideTable.{strides};
 ghost use Rattle.classes.specs.Strides.{bound, count, bounds, Form, Reached, Passed};
 ghost use Rattle.classes.specs.Rows.{byte_sum};
 
-use crate::tables::{PLACES, eight_strides};
+use crate::tables::{PLACES, STRIDES};
+use runs::eight;
 
 // From checkpoint `i` on, `by` at a time, to where the next would be past `c`. A search by halves would wait for each load before the next; here
 // the processor foresees the jumps, since the characters of a word are mostly of one script.
@@ -13,12 +13,8 @@ fn go_on(index: &[u32], i: usize, by: usize, c: u32) -> usize
     requires { (i < count index.now) × (0 < by) × (by ≤ 8) × (bound index.now i ≤ c) }
     ensures { Reached index.now c by result }
 {
-    let count = index.len() - 1;
     let mut i = i;
-    while i + by < count {
-        if c < index[i + by] / PLACES {
-            return i;
-        }
+    while i + by < index.len() - 1 && index[i + by] / PLACES <= c {
         i += by;
     }
     i
@@ -33,49 +29,36 @@ fn row_sum(row: u64) -> u32
     ((fours + fours / 0x1_0000) % 0x1_0000) as u32
 }
 
-fn lesser(a: usize, b: usize) -> usize
-    ensures { result ≡ min a b }
-{
-    if a < b { a } else { b }
-}
-
-// How far one comes over the strides from `at` to `end` that are in all at most `left`: by what is left of a row at once where that fits.
+// How far one comes over the strides from `at` to `end` that are in all at most `left`: by eight at once where that fits.
 fn pass(at: usize, end: usize, left: u32) -> usize
-    requires { (at ≤ end) × (end < 4096) }
-    ensures { Passed strides at end left result }
+    requires { (at ≤ end) × (end ≤ length STRIDES) }
+    ensures { Passed STRIDES at end left result }
 {
     let mut k = at;
     let mut left = left;
+    while k + 8 <= end {
+        let sum = row_sum(eight(&STRIDES, k));
+        if left < sum {
+            break;
+        }
+        left -= sum;
+        k += 8;
+    }
     while k < end {
-        let row = eight_strides(k / 8) >> (k % 8 * 8);
-        let stop = k / 8 * 8 + 8;
-        if stop <= end {
-            let sum = row_sum(row);
-            if sum <= left {
-                left -= sum;
-                k = stop;
-                continue;
-            }
+        let stride = u32::from(STRIDES[k]);
+        if left < stride {
+            break;
         }
-        let mut rest = row;
-        let last = lesser(stop, end);
-        while k < last {
-            let stride = (rest % 256) as u32;
-            if left < stride {
-                return k;
-            }
-            left -= stride;
-            rest /= 256;
-            k += 1;
-        }
+        left -= stride;
+        k += 1;
     }
     k
 }
 
 // `c` is in a range where the bounds that are at most `c` are odd in number: the checkpoints to `i`, and one for each stride before `k`.
 pub(crate) fn in_ranges(index: &[u32], c: u32) -> bool
-    requires { Form strides index.now }
-    ensures { result ≡ in_ranges (bounds strides index.now) c }
+    requires { Form STRIDES index.now }
+    ensures { result ≡ in_ranges (bounds STRIDES index.now) c }
 {
     if c < index[0] / PLACES {
         return false;

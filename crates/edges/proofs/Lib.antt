@@ -4,4 +4,3 @@ pub mod Drops
 pub mod Tells
 pub mod Tokens
 pub mod Walks
-pub mod Going

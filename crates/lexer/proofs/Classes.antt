@@ -1,20 +1,21 @@
 -- The classes by the code's tests: ASCII's white space by comparisons, its word bytes by one bit of a mask, other words by the tables.
 -- Assumes nothing.
-use Prim.Native.Nat.{ℕ, ◌/◌, ◌%◌, ◌^◌, ◌≤◌, ◌<◌}
+use Prim.Native.Nat.{ℕ, zero, suc, ◌+◌, ◌/◌, ◌%◌, ◌^◌, ◌≤◌, ◌<◌}
 use native.Mathlib.Omega.{arith}
-use native.Mathlib.Decide.{dec_lt}
+use native.Mathlib.Nat.{eq-or-lt_of_le}
+use mathlib.Core.Logic.{⊎_elim}
 use mathlib.Core.Path.{◌≡◌, refl, sym, ap, ◌∙◌}
-use mathlib.Core.Bool.{Bool, true, false, ◌&&◌, ◌||◌, or-false, and-false}
-use lib.Dec.{leb, ltb, eqb}
-use borrow.Author.Tests.{ne_eqb, lt-leb, le-ltb, ltb-true, ltb-false, lt-ltb}
+use mathlib.Core.Bool.{Bool, true, false, ◌&&◌, ◌||◌, and-false}
+use lib.Dec.{ltb, eqb}
+use borrow.Author.Tests.{ne_eqb, lt-leb, ltb-true, ltb-false, lt-ltb}
 use Rattle.rules.specs.Utf8.{within, no_code}
-use Rattle.rules.specs.Characters.{underscore, dollar}
+use Rattle.rules.specs.Characters.{underscore}
 use Rattle.rules.specs.Tables.{alphabetic_table, numeric_table}
 use Rattle.rules.specs.Classes.{in_ranges, white_space, alphabetic, numeric, alphanumeric}
 use Rattle.rules.specs.Words.{word_character}
 use Rattle.rules.specs.Numbers.{number_word}
 use Rattle.rules.specs.Dollars.{tag_byte}
-use Rattle.rules.proofs.Tests.{clash, and_right}
+use Rattle.rules.proofs.Tests.{and_both}
 use Rattle.rules.proofs.Tables.{agree_at, ascii_space, alphanumeric_none}
 use Rattle.lexer.specs.Words.{word_with, word_mask}
 
@@ -25,55 +26,27 @@ ascii_agree p q e b = go (ltb b 0x80) refl
     go true h = e b (ltb-true b 0x80 h)
     go false h = refl
 
-pub space-byte : (b : ℕ) → (eqb b 0x20 || within 0x09 0x0D b) ≡ (ltb b 0x80 && white_space b)
-space-byte b = go (ltb b 0x80) refl
+pub space_byte : (b : ℕ) → (ltb b 0x80 && white_space b) ≡ (eqb b 0x20 || within 0x09 0x0D b)
+space_byte b = go (ltb b 0x80) refl
   where
-    go : (t : Bool) → ltb b 0x80 ≡ t → (eqb b 0x20 || within 0x09 0x0D b) ≡ (t && white_space b)
-    go true h = sym (ascii_space b (ltb-true b 0x80 h))
+    go : (t : Bool) → ltb b 0x80 ≡ t → (t && white_space b) ≡ (eqb b 0x20 || within 0x09 0x0D b)
+    go true h = ascii_space b (ltb-true b 0x80 h)
     go false h = let l = ltb-false b 0x80 h in simp (ne_eqb b 0x20 (λ e. omega arith), lt-leb b 0x0D (omega arith), and-false)
 
 pub word_none : (d : Bool) → word_with d no_code ≡ false
 word_none true = rw alphanumeric_none
 word_none false = rw alphanumeric_none
 
-pub word_past : (d : Bool) (c : ℕ) → 0x80 ≤ c → word_with d c ≡ alphanumeric c
-word_past true c h = simp (ne_eqb c underscore (λ e. omega arith), ne_eqb c dollar (λ e. omega arith), or-false)
-word_past false c h = simp (ne_eqb c underscore (λ e. omega arith), or-false)
+-- Each number of a range is a letter: computed at all of them.
+abbrev lettered : ℕ → ℕ → Bool
+lettered lo zero = true
+lettered lo (suc n) = alphabetic (lo + n) && lettered lo n
 
--- Letters of many languages, in ranges of the table below U+06D4.
-abbrev common : ℕ → Bool
-common c =
-    leb 0xC0 c && ltb c 0xD7
-    || leb 0xD8 c && ltb c 0xF7
-    || leb 0xF8 c && ltb c 0x2C2
-    || leb 0x400 c && ltb c 0x482
-    || leb 0x5D0 c && ltb c 0x5EB
-    || leb 0x620 c && ltb c 0x658
-    || leb 0x66E c && ltb c 0x6D4
-
-common_below : (c : ℕ) → c < 0x6D4 → (common c && alphabetic c) ≡ common c
-unfolding alphabetic in_ranges alphabetic_table
-common_below = agree_at (λ c. common c && alphabetic c) common 0x6D4 refl
-
-common_past : (c : ℕ) → 0x6D4 ≤ c → common c ≡ false
-common_past c h =
-    simp (
-      le-ltb c 0xD7 (omega arith),
-      le-ltb c 0xF7 (omega arith),
-      le-ltb c 0x2C2 (omega arith),
-      le-ltb c 0x482 (omega arith),
-      le-ltb c 0x5EB (omega arith),
-      le-ltb c 0x658 (omega arith),
-      le-ltb c 0x6D4 h,
-      and-false,
-    )
-
-pub common_alphabetic : (c : ℕ) → common c ≡ true → alphabetic c ≡ true
-common_alphabetic c e = go (dec_lt c 0x6D4)
-  where
-    go : Dec (c < 0x6D4) → alphabetic c ≡ true
-    go (yes l) = and_right (common c) (alphabetic c) (common_below c l ∙ e)
-    go (no l) = clash e (common_past c (omega arith))
+pub alphabetic_from : (lo n : ℕ) → lettered lo n ≡ true → (c : ℕ) → lo ≤ c → c < lo + n → alphabetic c ≡ true
+alphabetic_from lo zero h c l m = absurd (omega arith)
+alphabetic_from lo (suc n) h c l k =
+    let b = and_both (alphabetic (lo + n)) (lettered lo n) h in
+    ⊎_elim (λ (e : c ≡ lo + n). rw e b.0) (λ m. alphabetic_from lo n b.1 c l m) (eq-or-lt_of_le (let u : c ≤ lo + n = omega arith in u))
 
 pub alphabetic_word : (d : Bool) (c : ℕ) → alphabetic c ≡ true → word_with d c ≡ true
 unfolding alphanumeric

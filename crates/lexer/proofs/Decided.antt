@@ -22,6 +22,9 @@ pub neither : (x y : Bool) → (x || y) ≡ false → (x ≡ false) × (y ≡ fa
 neither true y e = clash refl e
 neither false y e = (refl, e)
 
+pub none_of : (x y z : Bool) → ((x || y) || z) ≡ false → (x ≡ false) × (y ≡ false) × (z ≡ false)
+none_of x y z e = let l = neither (x || y) z e in let k = neither x y l.0 in (k.0, k.1, l.1)
+
 module _ (d : Bool) (s : List ℕ) (i : ℕ) (h : i < length s) (o : Operates (get_or s i 0)) where
   abbrev a : ℕ
   a = get_or s i 0

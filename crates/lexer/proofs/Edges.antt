@@ -13,7 +13,7 @@ use Rattle.rules.specs.Dollars.{tag_byte}
 use Rattle.rules.proofs.Tests.{eqb-true}
 use Rattle.rules.proofs.Tables.{agree_at}
 use Rattle.rules.proofs.NumberBytes.{radix_high}
-use Rattle.runs.specs.Classes.{Edges, past, inside, passes}
+use Rattle.runs.specs.Classes.{past, inside, passes}
 use Rattle.lexer.specs.Words.{ascii_word}
 use Rattle.lexer.proofs.Classes.{ascii_agree, ascii_tag}
 
@@ -85,9 +85,6 @@ module _ (a : ℕ) (la : a < 0x80) (x : ℕ) where
 -- the class of one byte
 abbrev pub one : ℕ → List ℕ
 one a = a ∷ (a + 1) ∷ 0 ∷ 0 ∷ 0 ∷ 0 ∷ 0 ∷ 0 ∷ []
-
-pub edges_one : (a : ℕ) → a < 0x80 → Edges (one a)
-edges_one a h = (refl, (omega arith, (omega arith, (omega arith, (omega arith, (omega arith, (omega arith, (omega arith, (omega arith, tt)))))))))
 
 pub inside_one : (a : ℕ) → a < 0x80 → (x : ℕ) → inside (one a) x ≡ eqb x a
 inside_one a h x = sym (not-not (inside (one a) x)) ∙ ap not (outside-one a h x) ∙ not-not (eqb x a)

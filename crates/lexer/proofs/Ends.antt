@@ -1,23 +1,39 @@
 -- What a reader answers, from what is known of the lexeme or of the part. Assumes nothing.
-use Prim.Native.Nat.{ℕ, ◌+◌, ◌-◌, ◌/◌, ◌%◌, ◌^◌, ◌≤◌, ◌<◌}
+use Prim.Native.Nat.{ℕ, ◌+◌, ◌-◌, ◌≤◌, ◌<◌}
 use mathlib.Core.Path.{◌≡◌, refl, sym, ap, ◌∙◌}
 use native.Mathlib.Omega.{arith}
 use mathlib.Core.List.{List}
-use mathlib.Core.Bool.{Bool, cond}
-use lib.ListN.{length, take, drop}
+use mathlib.Core.Bool.{Bool, true, false, cond}
+use Rattle.std.proofs.Common.{Result, Ok, Err, if◌then◌else◌}
+use lib.ListN.{length, take, drop, length-drop}
 use lib.Seq.{take_all}
 use Rattle.rules.specs.Lexeme.{Lexeme, is, Body, enclosed}
 use Rattle.rules.specs.Numbers.{Figures}
 use Rattle.rules.specs.Tokens.{Token, token, token_at, lexeme, after_dot_at}
 use Rattle.rules.proofs.Edges.{step_fits}
 use Rattle.lexer.specs.declared.token.Lexed.{Lexed}
-use Rattle.lexer.specs.declared.tokenizer.Part.{Part}
-use Rattle.rules.specs.Limits.{max_query_size}
-use Rattle.rules.proofs.KnownKinds.{kind_known}
-use Rattle.lexer.specs.Ends.{ends_at, joined, Lexes, part_at}
+use Rattle.lexer.specs.Ends.{ends_at, part_at}
 
-pub part_is : (at : ℕ) {f : Figures} {well : Bool} {n : ℕ} → f ≡ record { well = well; size = n } → (end : ℕ) → end ≡ at + n → record { well = well; end = end } ≡ part_at at f
-part_is at {f} {well} {n} e end p = ap {B = Part} (λ (m : ℕ). record { well = well; end = m }) p ∙ sym (ap (part_at at) e)
+pub part_well : (at : ℕ) {f : Figures} {n : ℕ} → f ≡ record { well = true; size = n } → (end : ℕ) → end ≡ at + n → Ok end ≡ part_at at f
+part_well at e end p = ap {B = Result ℕ ℕ} Ok p ∙ sym (ap (part_at at) e)
+
+pub part_wrong : (at : ℕ) {f : Figures} {n : ℕ} → f ≡ record { well = false; size = n } → (end : ℕ) → end ≡ at + n → Err end ≡ part_at at f
+part_wrong at e end p = ap {B = Result ℕ ℕ} Err p ∙ sym (ap (part_at at) e)
+
+-- and what a part answers of its figures
+pub is_well : (at : ℕ) (f : Figures) (end : ℕ) → Ok end ≡ part_at at f → (f.well ≡ true) × (end ≡ at + f.size)
+is_well at f end = go f.well refl
+  where
+    go : (w : Bool) → f.well ≡ w → Ok end ≡ (if w then Ok (at + f.size) else Err (at + f.size)) → (f.well ≡ true) × (end ≡ at + f.size)
+    go true q e = (q, cc)
+    go false q e = absurd (cc)
+
+pub is_wrong : (at : ℕ) (f : Figures) (end : ℕ) → Err end ≡ part_at at f → (f.well ≡ false) × (end ≡ at + f.size)
+is_wrong at f end = go f.well refl
+  where
+    go : (w : Bool) → f.well ≡ w → Err end ≡ (if w then Ok (at + f.size) else Err (at + f.size)) → (f.well ≡ false) × (end ≡ at + f.size)
+    go true q e = absurd (cc)
+    go false q e = (q, cc)
 
 pub lexed_is : (at : ℕ) {l : Lexeme} {kind n : ℕ} → l ≡ is kind n → (end : ℕ) → end ≡ at + n → record { kind = kind; end = end } ≡ ends_at at l
 lexed_is at {l} {kind} {n} e end p = ap {B = Lexed} (λ (m : ℕ). record { kind = kind; end = m }) p ∙ sym (ap (ends_at at) e)
@@ -35,23 +51,6 @@ next_is s at r e = ap (λ (x : Lexed). token x.kind at x.end) (sym e)
 pub next_lies : (s : List ℕ) (at : ℕ) (r : Lexed) → at < length s → r ≡ ends_at at (lexeme (after_dot_at s at) (drop at s)) → (at < r.end) × (r.end ≤ length s)
 next_lies s at r h e = let f = step_fits s at h in let n = ap (λ (t : Token). t.end) (next_is s at r e) in (omega arith, omega arith)
 
--- the whole text, as a slice of itself
-pub sliced : (s : List ℕ) → take (length s - 0) s ≡ s
-sliced s = take_all (length s - 0) s (omega arith)
-
-pub sliced_token : (i : ℕ) (s : List ℕ) → let t = take (length s - 0) s in ends_at i (lexeme (after_dot_at t i) (drop i t)) ≡ ends_at i (lexeme (after_dot_at s i) (drop i s))
-sliced_token i s = ap (λ (t : List ℕ). ends_at i (lexeme (after_dot_at t i) (drop i t))) (sliced s)
-
--- a lexeme and a number that has it
-pub split : (j : ℕ) (l : Lexed) → j ≡ joined l → l.end < 2 ^ 32 → (j / 2 ^ 32 ≡ l.kind) × (j % 2 ^ 32 ≡ l.end)
-split j l e h = (omega arith, omega arith)
-
--- a token of a text within the limit, in one number
-pub lexes : (s : List ℕ) (at r : ℕ) → length s ≤ max_query_size → at < length s → r ≡ joined (ends_at at (lexeme (after_dot_at s at) (drop at s))) → Lexes s at r
-lexes s at r m h e =
-    let l = ends_at at (lexeme (after_dot_at s at) (drop at s)) in
-    let f = next_lies s at l h refl in
-    let k = kind_known (after_dot_at s at) (drop at s) in
-    let z = split r l e (omega arith) in
-    let p : r / 2 ^ 32 % 64 ≡ l.kind = omega arith in
-    ap {B = Lexed} (λ (k : ℕ). record { kind = k; end = r % 2 ^ 32 }) p ∙ ap {B = Lexed} (λ (n : ℕ). record { kind = l.kind; end = n }) z.1
+-- what a slice from i on has
+pub rest : (s : List ℕ) (i : ℕ) → take (length s - i) (drop i s) ≡ drop i s
+rest s i = take_all (length s - i) (drop i s) (omega (arith, length-drop i s))

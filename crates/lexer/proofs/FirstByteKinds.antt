@@ -1,9 +1,9 @@
 -- What the first byte of a token tells. Assumes nothing.
-use Prim.Native.Nat.{ℕ, ◌-◌, ◌*◌, ◌/◌, ◌%◌, ◌^◌, ◌≤◌, ◌<◌}
+use Prim.Native.Nat.{ℕ, ◌-◌, ◌≤◌, ◌<◌}
 use native.Mathlib.Omega.{arith}
 use native.Mathlib.Decide.{dec_lt}
 use mathlib.Core.Path.{◌≡◌, refl, ap, ◌∙◌}
-use mathlib.Core.List.{List, [], ◌∷◌}
+use mathlib.Core.List.{[], ◌∷◌}
 use mathlib.Core.Bool.{Bool, true, false, not, ◌&&◌, ◌||◌}
 use mathlib.Core.Logic.{◌⊎◌, inl, inr}
 use borrow.Author.Tests.{le-ltb, le-leb, lt-ltb, eq-eqb, not-true}
@@ -17,24 +17,8 @@ use Rattle.rules.specs.Words.{starts_word}
 use Rattle.rules.specs.Dollars.{tag_byte}
 use Rattle.rules.proofs.Tests.{clash, eqb-true, or_cases, and_both}
 use Rattle.rules.proofs.Tables.{agree, agree_at}
-use Rattle.lexer.specs.FirstBytes.{among, bodies, longer, first_byte_kind, first_byte_row, Operates}
+use Rattle.lexer.specs.FirstBytes.{among, bodies, longer, first_byte_kind, Operates}
 use Rattle.lexer.proofs.Classes.{ascii_tag}
-
--- the rows, computed at all bytes
-abbrev pub rows : List ℕ
-rows = 15 ∷ 14 ∷ 13 ∷ 12 ∷ 11 ∷ 10 ∷ 9 ∷ 8 ∷ 7 ∷ 6 ∷ 5 ∷ 4 ∷ 3 ∷ 2 ∷ 1 ∷ 0 ∷ []
-
-pub row_past : (e : ℕ) → e < 32 → among rows e ≡ false → first_byte_row e ≡ 0
-unfolding first_byte_row first_byte_kind single
-row_past e l m = go (or_cases (among rows e) (eqb (first_byte_row e) 0) (agree_at (λ e. among rows e || eqb (first_byte_row e) 0) (λ e. true) 32 refl e l))
-  where
-    go : (among rows e ≡ true) ⊎ (eqb (first_byte_row e) 0 ≡ true) → first_byte_row e ≡ 0
-    go (inl x) = clash x m
-    go (inr x) = eqb-true x
-
-pub row_byte : (a : ℕ) → a < 256 → first_byte_row (a / 8) / 2 ^ (a % 8 * 8) % 256 ≡ first_byte_kind a
-unfolding first_byte_row first_byte_kind single
-row_byte a l = eqb-true (agree_at (λ a. eqb (first_byte_row (a / 8) / 2 ^ (a % 8 * 8) % 256) (first_byte_kind a)) (λ a. true) 256 refl a l)
 
 past_ascii : (a : ℕ) → 0x80 ≤ a → first_byte_kind a ≡ NoToken
 unfolding first_byte_kind

@@ -1,22 +1,31 @@
 -- Parts of a text that are ASCII, and the answers of rules 6 and 7 over them. Assumes nothing.
-use Prim.Native.Nat.{ℕ, ◌+◌, ◌-◌}
+use Prim.Native.Nat.{ℕ, ◌+◌, ◌-◌, ◌<◌}
 use native.Mathlib.Omega.{arith}
-use mathlib.Core.Path.{◌≡◌, sym, ap, ◌∙◌}
+use mathlib.Core.Path.{◌≡◌, refl, sym, ap, ◌∙◌}
 use mathlib.Core.List.{List}
-use mathlib.Core.Bool.{Bool, true, false, cond}
-use lib.ListN.{take, drop}
+use mathlib.Core.Bool.{Bool, true, false, cond, ◌&&◌}
+use lib.Dec.{eqb}
+use lib.ListN.{length, get_or, take, drop}
 use Rattle.rules.specs.Utf8.{Char, chars}
+use Rattle.rules.specs.Classes.{hex_digit}
+use Rattle.rules.specs.Characters.{zero_digit, one_digit, capital_b, capital_x, small_b, small_x}
 use Rattle.rules.specs.Kinds.{Number, BareWord, ErrorWrongNumber}
 use Rattle.rules.specs.Lexeme.{first, is, run}
-use Rattle.rules.specs.Numbers.{figures, number_word, starts_suffix, all_chars, closing, number}
+use Rattle.rules.specs.Numbers.{either, opening, figures, number_word, starts_suffix, all_chars, closing, number}
 use Rattle.rules.proofs.Numbers.{closing-number, closing_word, number_well, number_wrong}
-use Rattle.rules.proofs.NumberBytes.{LeadAt, ascii_rest}
+use Rattle.rules.proofs.NumberParts.{choose}
+use Rattle.rules.proofs.NumberBytes.{LeadAt, ascii_rest, opening_by}
 use Rattle.lexer.specs.declared.token.Lexed.{Lexed}
-use Rattle.lexer.specs.Ends.{ends_at, AsciiTo}
+use Rattle.lexer.specs.Ends.{ends_at, opened, AsciiTo}
 use Rattle.lexer.proofs.Ends.{lexed_is}
 
 pub lead_to : (s : List ℕ) (i n j : ℕ) → LeadAt s i n → j ≡ i + n → AsciiTo s i j
 lead_to s i n j l e = record { from = omega arith; upto = omega (arith, l.fits); ascii = λ k p q. l.ascii k p (omega arith) }
+
+-- how a number opens, by its first three bytes
+pub opened_at : (s : List ℕ) (i : ℕ) → i < length s → get_or s i 0 < 0x80
+    → opened (opening (chars (drop i s))) ≡ opened (choose (eqb (get_or s i 0) zero_digit && either small_x capital_x (get_or s (i + 1) 0) && hex_digit (get_or s (i + 2) 0)) (eqb (get_or s i 0) zero_digit && either small_b capital_b (get_or s (i + 1) 0) && either zero_digit one_digit (get_or s (i + 2) 0)))
+opened_at s i h l = ap opened (opening_by s i h l refl refl)
 
 -- rule 7 after the bytes from i to j
 module _ (s : List ℕ) (i j : ℕ) (a : AsciiTo s i j) where

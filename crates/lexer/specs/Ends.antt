@@ -1,40 +1,27 @@
 -- What the readers answer, in the code's own structs.
-use Rattle.std.specs.Prelude.{ℕ, ◌+◌, ◌*◌, ◌/◌, ◌%◌, ◌^◌, ◌≤◌, ◌<◌, ◌≡◌, length, get_or, drop, List, [], ◌∷◌, Bool, false}
+use Rattle.std.specs.Prelude.{ℕ, ◌+◌, ◌≤◌, ◌<◌, ◌≡◌, length, get_or, drop, List, [], ◌∷◌, Bool, false, if◌then◌else◌, Result, Ok, Err}
 use Rattle.rules.specs.Utf8.{Char, char_at}
 use Rattle.rules.specs.Classes.{white_space}
-use Rattle.rules.specs.Kinds.{NoToken, EndOfStream, ErrorToken}
+use Rattle.rules.specs.Kinds.{EndOfStream, ErrorToken}
 use Rattle.rules.specs.Lexeme.{Lexeme, is}
 use Rattle.rules.specs.Operators.{operator}
 use Rattle.rules.specs.Numbers.{Opening, Figures}
-use Rattle.rules.specs.Tokens.{Token, lexeme, after_dot_at}
+use Rattle.rules.specs.Tokens.{Token, lexeme}
 use Rattle.lexer.specs.declared.token.Token.{Token as CodeToken}
 use Rattle.lexer.specs.declared.token.Lexed.{Lexed}
 use Rattle.lexer.specs.declared.tokenizer.Opened.{Opened}
-use Rattle.lexer.specs.declared.tokenizer.Part.{Part}
 
 -- A lexeme that starts at an offset: its kind, and where it ends.
 abbrev pub ends_at : ℕ → Lexeme → Lexed
 ends_at at l = record { kind = l.kind; end = at + l.size }
 
--- A lexeme that ends somewhere, in one number: the kind above 32 bits of the end.
-abbrev pub joined : Lexed → ℕ
-joined l = l.kind * 2 ^ 32 + l.end % 2 ^ 32
-
--- A number that has the lexeme at an offset: the kind in bits 32 to 37, the end below. Of its other bits nothing is said.
-abbrev pub Lexes : List ℕ → ℕ → ℕ → Type 0
-Lexes s at r = record { kind = r / 2 ^ 32 % 64; end = r % 2 ^ 32 } ≡ ends_at at (lexeme (after_dot_at s at) (drop at s))
-
--- What the first bytes tell is the token, or no token where they leave it undecided.
-abbrev pub DecidedAs : Lexed → Lexed → Type 0
-DecidedAs r l = (r.kind ≡ NoToken → ⊥) → r ≡ l
-
 -- How a number opens.
 abbrev pub opened : Opening → Opened
 opened o = record { hex = o.hex; size = o.size }
 
--- A part of a number that starts at an offset: whether it ended well, and where.
-abbrev pub part_at : ℕ → Figures → Part
-part_at at f = record { well = f.well; end = at + f.size }
+-- A part of a number that starts at an offset: where it ends, as an error where it does not end well.
+abbrev pub part_at : ℕ → Figures → Result ℕ ℕ
+part_at at f = if f.well then Ok (at + f.size) else Err (at + f.size)
 
 -- The operator that a text begins with.
 abbrev pub operator_at : List Char → Lexeme

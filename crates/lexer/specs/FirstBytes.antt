@@ -1,5 +1,5 @@
 -- What the first byte of a token tells of its kind.
-use Rattle.std.specs.Prelude.{ℕ, ◌+◌, ◌*◌, ◌<◌, ◌≡◌, List, [], ◌∷◌, Bool, false, cond, ◌||◌, ltb, eqb}
+use Rattle.std.specs.Prelude.{ℕ, ◌+◌, ◌<◌, ◌≡◌, List, [], ◌∷◌, Bool, false, cond, ◌||◌, ltb, eqb}
 use Rattle.rules.specs.Utf8.{within}
 use Rattle.rules.specs.Classes.{white_space, digit}
 use Rattle.rules.specs.Characters.{exclamation, double_quote, dollar, quote, dash, slash, colon, less, equals, greater, at, backslash, back_quote, bar}
@@ -35,12 +35,6 @@ first_byte_kind a =
     (cond (among longer a) (0x80 + single a)
     (single a))))))
     NoToken
-
--- The kinds of eight bytes, the first lowest.
-unfoldable pub first_byte_row : ℕ → ℕ
-first_byte_row e =
-    let k : ℕ → ℕ = λ n. first_byte_kind (e * 8 + n) in
-    k 0 + 256 * (k 1 + 256 * (k 2 + 256 * (k 3 + 256 * (k 4 + 256 * (k 5 + 256 * (k 6 + 256 * k 7))))))
 
 -- A byte at which rule 2 starts a token, unless two bytes start a comment.
 pub record Operates (a : ℕ) : Type 0 where

@@ -1,8 +1,7 @@
 // What bytes are, alone or with the ones beside them, and runs of them.
-ghost use Rattle.std.specs.Prelude.{◌≡◌, not, cond, ◌&&◌, ◌+◌, ◌≤◌, ◌<◌, length, get_or, ltb, eqb, [], ◌∷◌};
+ghost use Rattle.std.specs.Prelude.{◌≡◌, not, ◌&&◌, ◌+◌, ◌≤◌, ◌<◌, length, ltb, eqb, [], ◌∷◌, ◌≢◌, MatchOption};
 ghost use Rattle.rules.specs.Classes.{white_space, digit, hex_digit};
-ghost use Rattle.rules.specs.Characters.{dollar};
-ghost use Rattle.rules.specs.Lexeme.{two};
+ghost use Rattle.rules.specs.Kinds.{NoToken};
 ghost use Rattle.rules.specs.Operators.{pair, spaceship};
 ghost use Rattle.runs.specs.Classes.{Skips};
 ghost use Rattle.rules.specs.Dollars.{tag_byte};
@@ -17,13 +16,13 @@ use utf8::byte_at;
 pub(crate) fn is_digit(b: u8) -> bool
     ensures { result ≡ digit b }
 {
-    (b'0' <= b) & (b <= b'9')
+    b.is_ascii_digit()
 }
 
 pub(crate) fn is_hex_digit(b: u8) -> bool
     ensures { result ≡ hex_digit b }
 {
-    is_digit(b) | (b'A' <= b) & (b <= b'F') | (b'a' <= b) & (b <= b'f')
+    b.is_ascii_hexdigit()
 }
 
 pub(crate) fn is_radix_digit(hex: bool, b: u8) -> bool
@@ -32,10 +31,11 @@ pub(crate) fn is_radix_digit(hex: bool, b: u8) -> bool
     if hex { is_hex_digit(b) } else { is_digit(b) }
 }
 
+#[tactic(auto, using(std::proofs::lemmas::Bool::Decides::nat_tests, crate::proofs::Classes::space_byte))]
 pub(crate) fn is_ascii_space(b: u8) -> bool
     ensures { result ≡ (ltb b 0x80 && white_space b) }
 {
-    (b == b' ') | (b'\t' <= b) & (b <= b'\r')
+    matches!(b, b' ' | b'\t'..=b'\r')
 }
 
 // The bits of a word's bytes: those below 64 by their number, and those from 64 on by their number less 64.
@@ -52,6 +52,7 @@ fn word_mask(b: u8, dollar: bool) -> u64
 }
 
 // One bit of a mask is a third faster than comparisons on words of mixed case.
+#[tactic(auto, using(crate::proofs::Classes::word_bit))]
 pub(crate) fn is_word_byte(b: u8, dollar: bool) -> bool
     ensures { result ≡ (ltb b 0x80 && word_with dollar b) }
 {
@@ -59,6 +60,7 @@ pub(crate) fn is_word_byte(b: u8, dollar: bool) -> bool
     (b < 0x80) & ((mask >> (b % 64)) % 2 == 1)
 }
 
+#[tactic(auto, using(crate::proofs::Classes::tag_word))]
 pub fn is_tag_byte(b: u8) -> bool
     ensures { result ≡ tag_byte b }
 {
@@ -68,18 +70,14 @@ pub fn is_tag_byte(b: u8) -> bool
 pub(crate) fn is_exponent_mark(hex: bool, b: u8) -> bool
     ensures { result ≡ exponent_mark hex b }
 {
-    if hex {
-        (b == b'p') | (b == b'P')
-    } else {
-        (b == b'e') | (b == b'E')
-    }
+    matches!((hex, b), (true, b'p' | b'P') | (false, b'e' | b'E'))
 }
 
 // The bytes of a sign: 1 or 0.
 pub(crate) fn sign_len(b: u8) -> usize
     ensures { result ≡ sign_length b }
 {
-    if (b == b'+') | (b == b'-') { 1 } else { 0 }
+    usize::from(matches!(b, b'+' | b'-'))
 }
 
 // The byte before `start` is a dot: the number is then a place in a tuple, as in `x.1.1`.
@@ -87,67 +85,43 @@ pub(crate) fn after_dot(text: &[u8], start: usize) -> bool
     requires { start < length text.now }
     ensures { result ≡ after_dot_at text.now start }
 {
-    if start == 0 {
-        return false;
-    }
-    text[start - 1] == b'.'
+    start > 0 && text[start - 1] == b'.'
 }
 
-// The two bytes at `at` are `a` and `b`. A byte past the end reads as 0, which `b` is not.
-pub(crate) fn two_at(text: &[u8], at: usize, a: u8, b: u8) -> bool
-    requires { (at < length text.now) × (0 < b) }
-    ensures { result ≡ two (get_or text.now at 0) (get_or text.now (at + 1) 0) a b }
+// The kind of two characters together, where they are one operator.
+#[tactic(auto, using(std::proofs::lemmas::Bool::Decides::nat_tests), unfolding(rules::specs::Operators::pair))]
+pub(crate) fn pair(a: u8, b: u8) -> Option<u32>
+    ensures { MatchOption result (pair a b ≡ NoToken) (λ k. (k ≡ pair a b) × (k ≢ NoToken)) }
 {
-    if text[at] != a {
-        return false;
-    }
-    if text.len() - at == 1 {
-        return false;
-    }
-    text[at + 1] == b
-}
-
-// The kind where the test holds, or 0.
-fn kind_if(test: bool, kind: u32) -> u32
-    ensures { result ≡ cond test kind 0 }
-{
-    if test { kind } else { 0 }
-}
-
-// The kind of two characters together, or 0 where they are none. No test depends on another, so that none is a jump.
-pub(crate) fn pair(a: u8, b: u8) -> u32
-    ensures { result ≡ pair a b }
-{
-    kind_if((a == b'-') & (b == b'>'), SyntaxKind::Arrow)
-        | kind_if((a == b':') & (b == b':'), SyntaxKind::DoubleColon)
-        | kind_if((a == b'|') & (b == b'|'), SyntaxKind::Concatenation)
-        | kind_if((a == b'@') & (b == b'@'), SyntaxKind::DoubleAt)
-        | kind_if((a == b'!') & (b == b'='), SyntaxKind::NotEquals)
-        | kind_if(
-            (a == b'=') & ((b == b'=') | (b == b'>')),
-            SyntaxKind::Equals,
-        )
-        | kind_if((a == b'<') & (b == b'>'), SyntaxKind::NotEquals)
-        | kind_if((a == b'<') & (b == b'='), SyntaxKind::LessOrEquals)
-        | kind_if((a == b'>') & (b == b'='), SyntaxKind::GreaterOrEquals)
-        | kind_if(
-            (a == b'\\') & ((b == b'G') | (b == b'g')),
-            SyntaxKind::VerticalDelimiter,
-        )
+    let kind = match (a, b) {
+        (b'-', b'>') => SyntaxKind::Arrow,
+        (b':', b':') => SyntaxKind::DoubleColon,
+        (b'|', b'|') => SyntaxKind::Concatenation,
+        (b'@', b'@') => SyntaxKind::DoubleAt,
+        (b'!', b'=') | (b'<', b'>') => SyntaxKind::NotEquals,
+        (b'=', b'=' | b'>') => SyntaxKind::Equals,
+        (b'<', b'=') => SyntaxKind::LessOrEquals,
+        (b'>', b'=') => SyntaxKind::GreaterOrEquals,
+        (b'\\', b'G' | b'g') => SyntaxKind::VerticalDelimiter,
+        _ => return None,
+    };
+    Some(kind)
 }
 
 pub(crate) fn is_spaceship(a: u8, b: u8, c: u8) -> bool
     ensures { result ≡ spaceship a b c }
 {
-    ((a == b'<') & (b == b'=')) & (c == b'>') | ((a == b'=') & (b == b'>')) & (c == b'<')
+    matches!((a, b, c), (b'<', b'=', b'>') | (b'=', b'>', b'<'))
 }
 
 // The class of one byte.
 pub(crate) fn only(a: u8) -> Class
     requires { a < 0x80 }
-    ensures { result ≡ a ∷ (a + 1) ∷ 0 ∷ 0 ∷ 0 ∷ 0 ∷ 0 ∷ 0 ∷ [] }
+    ensures { result.edges ≡ a ∷ (a + 1) ∷ 0 ∷ 0 ∷ 0 ∷ 0 ∷ 0 ∷ 0 ∷ [] }
 {
-    [a, a + 1, 0, 0, 0, 0, 0, 0]
+    Class {
+        edges: [a, a + 1, 0, 0, 0, 0, 0, 0],
+    }
 }
 
 // Over the bytes of ASCII from `at` on that a word has, by eights: the last seven bytes of the text may be left.
@@ -155,8 +129,7 @@ pub(crate) fn skip_words(text: &[u8], at: usize) -> usize
     requires { at ≤ length text.now }
     ensures { Skips ascii_word text.now at result }
 {
-    let class = [b'0', b':', b'A', b'[', b'_', b'`', b'a', b'{'];
-    runs::skip(text, at, false, class)
+    runs::skip(text, at, false, Class::WORDS)
 }
 
 // The same over digits.
@@ -164,8 +137,7 @@ pub(crate) fn skip_digits(text: &[u8], at: usize) -> usize
     requires { at ≤ length text.now }
     ensures { Skips digit text.now at result }
 {
-    let class = [b'0', b':', 0, 0, 0, 0, 0, 0];
-    runs::skip(text, at, false, class)
+    runs::skip(text, at, false, Class::DIGITS)
 }
 
 // The same over white space of ASCII.
@@ -173,8 +145,7 @@ pub(crate) fn skip_spaces(text: &[u8], at: usize) -> usize
     requires { at ≤ length text.now }
     ensures { Skips (λ b. ltb b 0x80 && white_space b) text.now at result }
 {
-    let k = [b'\t', 14, b' ', b'!', 0, 0, 0, 0];
-    runs::skip(text, at, false, k)
+    runs::skip(text, at, false, Class::SPACES)
 }
 
 // The same up to a byte `a`.
@@ -197,6 +168,8 @@ pub(crate) fn skip_to_either(text: &[u8], at: usize, a: u8, b: u8) -> usize
     if (x == a) | (x == b) {
         return at;
     }
-    let k = [a, a + 1, b, b + 1, 0, 0, 0, 0];
-    runs::skip(text, at, true, k)
+    let either = Class {
+        edges: [a, a + 1, b, b + 1, 0, 0, 0, 0],
+    };
+    runs::skip(text, at, true, either)
 }

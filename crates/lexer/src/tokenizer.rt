@@ -1,8 +1,7 @@
 // The readers, under the Rust's names and in its order. Each takes the text and an offset; none needs the text to be UTF-8.
-ghost use Rattle.std.specs.Prelude.{◌≡◌, Bool, true, false, ◌&&◌, ◌+◌, ◌-◌, ◌≤◌, ◌<◌, length, get_or, take, drop, eqb};
-ghost use Rattle.rules.specs.Utf8.{char_at, chars};
-ghost use Rattle.classes.specs.Held.{Held};
-ghost use Rattle.rules.specs.Classes.{white_space, alphabetic, digit, hex_digit};
+ghost use Rattle.std.specs.Prelude.{◌≡◌, Bool, true, false, ◌&&◌, ◌+◌, ◌-◌, ◌≤◌, ◌<◌, length, get_or, take, drop, eqb, ◌≢◌, MatchOption};
+ghost use Rattle.rules.specs.Utf8.{chars};
+ghost use Rattle.rules.specs.Classes.{white_space, alphabetic, digit};
 ghost use Rattle.rules.specs.Characters.{dollar, underscore, backslash};
 ghost use Rattle.rules.specs.Kinds.{NoToken, Comment, ErrorMultilineCommentIsNotClosed};
 ghost use Rattle.rules.specs.Lexeme.{first, run, enclosed};
@@ -13,7 +12,7 @@ ghost use Rattle.rules.specs.Quotes.{quoted_body, up_to};
 ghost use Rattle.rules.specs.Dollars.{begins, find, here_doc, dollar_lexeme};
 ghost use Rattle.rules.specs.Numbers.{digits, radix_digit, opening, fraction, exponent, number_word, starts_suffix, all_chars, closing, number};
 ghost use Rattle.rules.specs.Tokens.{lexeme, after_dot_at};
-ghost use Rattle.lexer.specs.Ends.{ends_at, joined, opened, part_at, operator_at, AsciiTo};
+ghost use Rattle.lexer.specs.Ends.{ends_at, opened, part_at, operator_at, AsciiTo};
 ghost use Rattle.lexer.specs.Steps.{Step};
 ghost use Rattle.lexer.specs.Words.{word_with};
 ghost use Rattle.lexer.specs.FirstBytes.{first_byte_kind, Operates};
@@ -23,104 +22,76 @@ ghost use Rattle.lexer.specs.HereDocs.{Ascii, Delimiter, TagEnd, found_end};
 use crate::bytes::{
     after_dot, is_ascii_space, is_digit, is_exponent_mark, is_hex_digit, is_radix_digit,
     is_spaceship, is_tag_byte, is_word_byte, only, pair, sign_len, skip_spaces, skip_to,
-    skip_to_either, skip_words, two_at,
+    skip_to_either, skip_words,
 };
 use crate::fast::{
     fast_number, fast_operator, first_byte_kind, is_short_space, number_if_ended, other_len,
 };
 use crate::syntax_kind::SyntaxKind;
-use crate::token::{Lexed, join};
-use classes::tables::ClassTable;
+use crate::token::Lexed;
 use runs::skip_pairs;
 use utf8::{byte_at, is_tail, unit_at, unit_code, unit_len};
 
-// The token at `start`, joined. Each reader is called here and in `last_token`: called at two places it stays out of line, and this
-// function is small. It is handed `&text[0..]`, whose pointer and length go in registers.
-pub fn next_token(text: &[u8], start: usize) -> u64
-    ensures { result ≡ joined (ends_at start (lexeme (after_dot_at text.now start) (drop start text.now))) }
+// The token at `start`.
+pub fn next_token(text: &[u8], start: usize) -> Lexed
+    ensures { result ≡ ends_at start (lexeme (after_dot_at text.now start) (drop start text.now)) }
 {
     if start >= text.len() {
-        return join(SyntaxKind::EndOfStream, start);
+        return Lexed::new(SyntaxKind::EndOfStream, start);
     }
     if text.len() - start < 4 {
-        return last_token(&text[0..], start);
+        return last_token(text, start);
     }
     let k = first_byte_kind(text[start]);
     if k == SyntaxKind::BareWord {
-        return join(SyntaxKind::BareWord, read_bare_word(&text[0..], start));
+        return Lexed::new(SyntaxKind::BareWord, read_bare_word(text, start));
     }
     if k == SyntaxKind::Whitespace {
-        if is_short_space(&text[0..], start) {
-            return join(SyntaxKind::Whitespace, start + 1);
+        if is_short_space(text, start) {
+            return Lexed::new(SyntaxKind::Whitespace, start + 1);
         }
-        return join(SyntaxKind::Whitespace, read_whitespace(&text[0..], start));
+        return Lexed::new(SyntaxKind::Whitespace, read_whitespace(text, start));
     }
     if k == SyntaxKind::Number {
-        return number_token(&text[0..], start);
+        return read_number(text, start);
     }
     if k == SyntaxKind::NoToken {
-        let n = other_len(&text[0..], start);
-        if n != 0 {
-            return join(SyntaxKind::ErrorToken, start + n);
+        if let Some(n) = other_len(text, start) {
+            return Lexed::new(SyntaxKind::ErrorToken, start + n);
         }
-        return other_token(&text[0..], start);
+        return read_other(text, start);
     }
     if k < 0x80 {
-        return join(k, start + 1);
+        return Lexed::new(k, start + 1);
     }
-    let l = fast_operator(&text[0..], start, k - 0x80);
-    if l.kind != SyntaxKind::NoToken {
-        return join(l.kind, l.end);
+    if let Some(l) = fast_operator(text, start, k - 0x80) {
+        return l;
     }
-    longer_token(&text[0..], start, k - 0x80)
+    read_longer(text, start, k - 0x80)
 }
 
 // The token at `start` near the text's end.
-fn last_token(text: &[u8], start: usize) -> u64
+fn last_token(text: &[u8], start: usize) -> Lexed
     requires { start < length text.now }
-    ensures { result ≡ joined (ends_at start (lexeme (after_dot_at text.now start) (drop start text.now))) }
+    ensures { result ≡ ends_at start (lexeme (after_dot_at text.now start) (drop start text.now)) }
 {
     let k = first_byte_kind(text[start]);
     if k == SyntaxKind::BareWord {
-        return join(SyntaxKind::BareWord, read_bare_word(text, start));
+        return Lexed::new(SyntaxKind::BareWord, read_bare_word(text, start));
     }
     if k == SyntaxKind::Whitespace {
-        return join(SyntaxKind::Whitespace, read_whitespace(text, start));
+        return Lexed::new(SyntaxKind::Whitespace, read_whitespace(text, start));
     }
     if k == SyntaxKind::Number {
-        return number_token(text, start);
+        return read_number(text, start);
     }
     if k == SyntaxKind::NoToken {
-        return other_token(text, start);
+        return read_other(text, start);
     }
     if k < 0x80 {
-        return join(k, start + 1);
+        return Lexed::new(k, start + 1);
     }
-    longer_token(text, start, k - 0x80)
-}
-
-fn number_token(text: &[u8], start: usize) -> u64
-    requires { (start < length text.now) × (digit (get_or text.now start 0) ≡ true) }
-    ensures { result ≡ joined (ends_at start (number (after_dot_at text.now start) (chars (drop start text.now)))) }
-{
-    let l = read_number(text, start);
-    join(l.kind, l.end)
-}
-
-fn other_token(text: &[u8], start: usize) -> u64
-    requires { (start < length text.now) × (first_byte_kind (get_or text.now start 0) ≡ NoToken) }
-    ensures { result ≡ joined (ends_at start (lexeme (after_dot_at text.now start) (drop start text.now))) }
-{
-    let l = read_other(text, start);
-    join(l.kind, l.end)
-}
-
-fn longer_token(text: &[u8], start: usize, kind: u32) -> u64
-    requires { (start < length text.now) × Operates (get_or text.now start 0) × (single (get_or text.now start 0) ≡ kind) }
-    ensures { result ≡ joined (ends_at start (lexeme (after_dot_at text.now start) (drop start text.now))) }
-{
-    let l = read_longer(text, start, kind);
-    join(l.kind, l.end)
+    read_longer(text, start, k - 0x80)
 }
 
 // A token that starts with a character past ASCII, or with a byte that begins none.
@@ -133,41 +104,29 @@ fn read_non_ascii(text: &[u8], start: usize) -> Lexed
     let after = start + unit_len(u);
     // Nothing but an ErrorToken starts with a character past U+3000, or with a broken one, whose code is past all.
     if 0x3000 < c {
-        return Lexed {
-            kind: SyntaxKind::ErrorToken,
-            end: after,
-        };
+        return Lexed::new(SyntaxKind::ErrorToken, after);
     }
     if classes::is_white_space(c) {
-        return Lexed {
-            kind: SyntaxKind::Whitespace,
-            end: read_whitespace(text, start),
-        };
+        return Lexed::new(SyntaxKind::Whitespace, read_whitespace(text, start));
     }
-    if c == 0x2018 {
-        return read_unicode_quoted(
+    match c {
+        0x2018 => read_unicode_quoted(
             text,
             after,
             0x99,
             SyntaxKind::StringToken,
             SyntaxKind::ErrorSingleQuoteIsNotClosed,
-        );
-    }
-    if c == 0x201C {
-        return read_unicode_quoted(
+        ),
+        0x201C => read_unicode_quoted(
             text,
             after,
             0x9D,
             SyntaxKind::QuotedIdentifier,
             SyntaxKind::ErrorDoubleQuoteIsNotClosed,
-        );
+        ),
+        0x2212 => Lexed::new(SyntaxKind::Minus, after),
+        _ => Lexed::new(SyntaxKind::ErrorToken, after),
     }
-    let kind = if c == 0x2212 {
-        SyntaxKind::Minus
-    } else {
-        SyntaxKind::ErrorToken
-    };
-    Lexed { kind, end: after }
 }
 
 // A token that starts with a quote, a `$`, or a byte past ASCII.
@@ -207,16 +166,11 @@ fn read_longer(text: &[u8], start: usize, kind: u32) -> Lexed
     requires { (start < length text.now) × Operates (get_or text.now start 0) × (single (get_or text.now start 0) ≡ kind) }
     ensures { result ≡ ends_at start (lexeme (after_dot_at text.now start) (drop start text.now)) }
 {
-    if two_at(text, start, b'-', b'-') {
-        return Lexed {
-            kind: SyntaxKind::Comment,
-            end: read_single_line_comment(text, start),
-        };
+    match (text[start], byte_at(text, start + 1)) {
+        (b'-', b'-') => Lexed::new(SyntaxKind::Comment, read_single_line_comment(text, start)),
+        (b'/', b'*') => read_multi_line_comment(text, start + 2),
+        _ => read_operator(text, start, kind),
     }
-    if two_at(text, start, b'/', b'*') {
-        return read_multi_line_comment(text, start + 2);
-    }
-    read_operator(text, start, kind)
 }
 
 // The longest of the choices at a character of ASCII; `kind` is that of the first byte alone.
@@ -228,43 +182,27 @@ fn read_operator(text: &[u8], start: usize, kind: u32) -> Lexed
     let b = byte_at(text, start + 1);
     let c = byte_at(text, start + 2);
     if is_spaceship(a, b, c) {
-        return Lexed {
-            kind: SyntaxKind::Spaceship,
-            end: start + 3,
-        };
+        return Lexed::new(SyntaxKind::Spaceship, start + 3);
     }
-    let k = pair(a, b);
-    if k != 0 {
-        return Lexed {
-            kind: k,
-            end: start + 2,
-        };
-    }
-    Lexed {
-        kind,
-        end: start + 1,
+    match pair(a, b) {
+        Some(kind) => Lexed::new(kind, start + 2),
+        None => Lexed::new(kind, start + 1),
     }
 }
 
-// The bytes of the White_Space character at `at`, or 0 where there is none.
-fn space_len(text: &[u8], at: usize) -> usize
-    ensures { Step white_space text.now at result }
+// The bytes of the White_Space character at `at`, if there is one.
+fn space_len(text: &[u8], at: usize) -> Option<usize>
+    ensures { MatchOption result (Step white_space text.now at 0) (λ n. (n ≢ 0) × Step white_space text.now at n) }
 {
     let u = unit_at(text, at);
-    if classes::is_white_space(unit_code(u)) {
-        unit_len(u)
-    } else {
-        0
-    }
+    classes::is_white_space(unit_code(u)).then_some(unit_len(u))
 }
 
 fn read_whitespace(text: &[u8], at: usize) -> usize
+    requires { at ≤ length text.now }
     ensures { result ≡ at + run white_space (chars (drop at text.now)) }
 {
-    let mut j = at;
-    if j < text.len() {
-        j = skip_spaces(text, j);
-    }
+    let mut j = skip_spaces(text, at);
     while j < text.len() {
         let b = text[j];
         if is_ascii_space(b) {
@@ -274,64 +212,48 @@ fn read_whitespace(text: &[u8], at: usize) -> usize
         if b < 0x80 {
             return j;
         }
-        let n = space_len(text, j);
-        if n == 0 {
-            return j;
+        match space_len(text, j) {
+            Some(n) => j += n,
+            None => return j,
         }
-        j += n;
     }
     j
 }
 
 // No byte of a longer character is a line feed, so bytes do.
 fn read_single_line_comment(text: &[u8], at: usize) -> usize
+    requires { at ≤ length text.now }
     ensures { result ≡ at + run not_line_feed (chars (drop at text.now)) }
 {
-    let mut j = at;
-    if j < text.len() {
-        j = skip_to(text, j, b'\n');
-    }
-    while j < text.len() {
-        if text[j] == b'\n' {
-            return j;
-        }
-        j += 1;
-    }
-    j
+    let from = skip_to(text, at, b'\n');
+    let rest = &text[from..];
+    from + rest.iter().position(|b| *b == b'\n').unwrap_or(rest.len())
 }
 
 // `deeper` comments are open inside the outermost one. Only ASCII counts here, so bytes do.
 fn read_multi_line_comment(text: &[u8], at: usize) -> Lexed
+    requires { at ≤ length text.now }
     ensures { result ≡ ends_at at (enclosed 0 (comment_body 0 false (chars (drop at text.now))) Comment ErrorMultilineCommentIsNotClosed) }
 {
-    let mut j = at;
+    let mut j = skip_to_either(text, at, b'*', b'/');
     let mut deeper: usize = 0;
-    if j < text.len() {
-        j = skip_to_either(text, j, b'*', b'/');
-    }
     while j < text.len() {
-        if two_at(text, j, b'*', b'/') {
-            if deeper == 0 {
-                return Lexed {
-                    kind: SyntaxKind::Comment,
-                    end: j + 2,
-                };
+        match (text[j], byte_at(text, j + 1)) {
+            (b'*', b'/') => {
+                if deeper == 0 {
+                    return Lexed::new(SyntaxKind::Comment, j + 2);
+                }
+                deeper -= 1;
+                j += 2;
             }
-            deeper -= 1;
-            j += 2;
-            continue;
+            (b'/', b'*') => {
+                deeper += 1;
+                j += 2;
+            }
+            _ => j = skip_to_either(text, j + 1, b'*', b'/'),
         }
-        if two_at(text, j, b'/', b'*') {
-            deeper += 1;
-            j += 2;
-            continue;
-        }
-        j = skip_to_either(text, j + 1, b'*', b'/');
     }
-    Lexed {
-        kind: SyntaxKind::ErrorMultilineCommentIsNotClosed,
-        end: j,
-    }
+    Lexed::new(SyntaxKind::ErrorMultilineCommentIsNotClosed, j)
 }
 
 // How a number opens: whether its digits are hex, and how many bytes stand before the first run.
@@ -342,25 +264,26 @@ pub struct Opened {
 }
 
 // `0x` before a hex digit, `0b` before 0 or 1, or the digit that starts the token, which belongs to no run.
+#[tactic(auto, using(std::proofs::lemmas::Bool::Decides::nat_tests, crate::proofs::Numbers::opened_at))]
 fn read_opening(text: &[u8], start: usize) -> Opened
     requires { (start < length text.now) × (get_or text.now start 0 < 0x80) }
-    ensures { result ≡ opened (opening (chars (drop start text.now))) }
+    ensures fits { start + result.size ≤ length text.now }
+    ensures opens { result ≡ opened (opening (chars (drop start text.now))) }
 {
-    let zero = text[start] == b'0';
-    let b = byte_at(text, start + 1);
-    let c = byte_at(text, start + 2);
-    if zero & ((b == b'x') | (b == b'X')) & is_hex_digit(c) {
-        return Opened { hex: true, size: 2 };
-    }
-    if zero & ((b == b'b') | (b == b'B')) & ((c == b'0') | (c == b'1')) {
-        return Opened {
+    match (
+        text[start],
+        byte_at(text, start + 1),
+        byte_at(text, start + 2),
+    ) {
+        (b'0', b'x' | b'X', c) if is_hex_digit(c) => Opened { hex: true, size: 2 },
+        (b'0', b'b' | b'B', b'0' | b'1') => Opened {
             hex: false,
             size: 2,
-        };
-    }
-    Opened {
-        hex: false,
-        size: 1,
+        },
+        _ => Opened {
+            hex: false,
+            size: 1,
+        },
     }
 }
 
@@ -368,41 +291,25 @@ fn read_opening(text: &[u8], start: usize) -> Opened
 fn read_fraction(text: &[u8], at: usize, hex: bool) -> usize
     ensures { result ≡ at + fraction (radix_digit hex) 0 (chars (drop at text.now)) }
 {
-    if at < text.len() {
-        if text[at] == b'.' {
-            return read_radix_digits(text, at + 1, hex);
-        }
+    if byte_at(text, at) == b'.' {
+        read_digits(text, at + 1, hex)
+    } else {
+        at
     }
-    at
 }
 
-// Where a part of a number ends, and whether it ended well.
-#[derive(Clone, Copy)]
-pub struct Part {
-    pub well: bool,
-    pub end: usize,
-}
-
-// The exponent, if its letter comes next.
-fn read_exponent(text: &[u8], at: usize, hex: bool) -> Part
+// The exponent, if its letter comes next: where it ends, as an `Err` where it has no digit.
+fn read_exponent(text: &[u8], at: usize, hex: bool) -> Result<usize, usize>
     ensures { result ≡ part_at at (exponent hex (chars (drop at text.now))) }
 {
     if !is_exponent_mark(hex, byte_at(text, at)) {
-        return Part {
-            well: true,
-            end: at,
-        };
+        return Ok(at);
     }
     let j = at + (1 + sign_len(byte_at(text, at + 1)));
-    if !is_digit(byte_at(text, j)) {
-        return Part {
-            well: false,
-            end: j,
-        };
-    }
-    Part {
-        well: true,
-        end: read_digits(text, j),
+    if is_digit(byte_at(text, j)) {
+        Ok(read_digits(text, j, false))
+    } else {
+        Err(j)
     }
 }
 
@@ -410,24 +317,22 @@ fn read_number(text: &[u8], start: usize) -> Lexed
     requires { (start < length text.now) × (digit (get_or text.now start 0) ≡ true) }
     ensures { result ≡ ends_at start (number (after_dot_at text.now start) (chars (drop start text.now))) }
 {
-    let l = fast_number(text, start);
-    if l.kind != SyntaxKind::NoToken {
+    if let Some(l) = fast_number(text, start) {
         return l;
     }
     if after_dot(text, start) {
-        return read_identifier_starting_with_number(text, start, read_digits(text, start + 1));
+        return read_identifier_starting_with_number(
+            text,
+            start,
+            read_digits(text, start + 1, false),
+        );
     }
-    let o = read_opening(text, start);
-    let hex = o.hex;
-    let whole = read_radix_digits(text, start + o.size, hex);
-    let e = read_exponent(text, read_fraction(text, whole, hex), hex);
-    if !e.well {
-        return Lexed {
-            kind: SyntaxKind::ErrorWrongNumber,
-            end: e.end,
-        };
+    let Opened { hex, size } = read_opening(text, start);
+    let whole = read_digits(text, start + size, hex);
+    match read_exponent(text, read_fraction(text, whole, hex), hex) {
+        Ok(end) => read_identifier_starting_with_number(text, start, end),
+        Err(end) => Lexed::new(SyntaxKind::ErrorWrongNumber, end),
     }
-    read_identifier_starting_with_number(text, start, e.end)
 }
 
 // The byte at j is a `_` that joins two digits.
@@ -438,45 +343,20 @@ fn is_separator(text: &[u8], j: usize, hex: bool, after: bool) -> bool
     (text[j] == b'_') & after & is_radix_digit(hex, byte_at(text, j + 1))
 }
 
-// A run of digits of either radix. `after`: the byte before is a digit of this run.
-fn read_run(text: &[u8], at: usize, hex: bool) -> usize
+// A run of digits of either radix, with a `_` between any two. `after`: the byte before is a digit of this run.
+fn read_digits(text: &[u8], at: usize, hex: bool) -> usize
+    requires { at ≤ length text.now }
     ensures { result ≡ at + digits (radix_digit hex) false (chars (drop at text.now)) }
 {
-    let mut j = at;
     let mut after = false;
-    while j < text.len() {
+    for j in at..text.len() {
         let digit = is_radix_digit(hex, text[j]);
-        if !digit {
-            if !is_separator(text, j, hex, after) {
-                return j;
-            }
+        if !digit && !is_separator(text, j, hex, after) {
+            return j;
         }
         after = digit;
-        j += 1;
     }
-    j
-}
-
-fn read_hex_digits(text: &[u8], at: usize) -> usize
-    ensures { result ≡ at + digits hex_digit false (chars (drop at text.now)) }
-{
-    read_run(text, at, true)
-}
-
-fn read_digits(text: &[u8], at: usize) -> usize
-    ensures { result ≡ at + digits digit false (chars (drop at text.now)) }
-{
-    read_run(text, at, false)
-}
-
-fn read_radix_digits(text: &[u8], at: usize, hex: bool) -> usize
-    ensures { result ≡ at + digits (radix_digit hex) false (chars (drop at text.now)) }
-{
-    if hex {
-        read_hex_digits(text, at)
-    } else {
-        read_digits(text, at)
-    }
+    text.len()
 }
 
 // The character at `at` makes a word of the number before it.
@@ -484,9 +364,6 @@ fn starts_suffix(text: &[u8], at: usize) -> bool
     ensures { result ≡ starts_suffix (first (chars (drop at text.now))) }
 {
     let c = unit_code(unit_at(text, at));
-    if is_common_letter(c) {
-        return true;
-    }
     classes::is_alphabetic(c) | (c == 0x5F)
 }
 
@@ -495,53 +372,38 @@ fn is_word(text: &[u8], start: usize, end: usize) -> bool
     requires { AsciiTo text.now start end }
     ensures { result ≡ all_chars number_word (take (end - start) (chars (drop start text.now))) }
 {
-    let mut j = start;
-    while j < end {
-        if !is_word_byte(text[j], true) {
-            return false;
-        }
-        j += 1;
-    }
-    true
+    text[start..end].iter().all(|b| is_word_byte(*b, true))
 }
 
-// The number from `start` to `at`, or the word that it is the start of. `number_word`, whose table needs room, stays out of line by being called twice.
+// The number from `start` to `at`, or the word that it is the start of.
 fn read_identifier_starting_with_number(text: &[u8], start: usize, at: usize) -> Lexed
     requires { AsciiTo text.now start at }
     ensures { result ≡ ends_at start (closing (at - start) (chars (drop start text.now))) }
 {
     if at < text.len() {
-        let l = number_if_ended(text[at], start, at);
-        if l.kind != SyntaxKind::NoToken {
+        if let Some(l) = number_if_ended(text[at], at) {
             return l;
         }
-        return number_word(text, start, at);
     }
     number_word(text, start, at)
 }
 
 // The same by the character there, whatever it is.
+#[inline(never)]
 fn number_word(text: &[u8], start: usize, at: usize) -> Lexed
     requires { AsciiTo text.now start at }
     ensures { result ≡ ends_at start (closing (at - start) (chars (drop start text.now))) }
 {
     if !starts_suffix(text, at) {
-        return Lexed {
-            kind: SyntaxKind::Number,
-            end: at,
-        };
+        return Lexed::new(SyntaxKind::Number, at);
     }
     let end = read_word(text, at, true);
-    if is_word(text, start, at) {
-        return Lexed {
-            kind: SyntaxKind::BareWord,
-            end,
-        };
-    }
-    Lexed {
-        kind: SyntaxKind::ErrorWrongNumber,
-        end,
-    }
+    let kind = if is_word(text, start, at) {
+        SyntaxKind::BareWord
+    } else {
+        SyntaxKind::ErrorWrongNumber
+    };
+    Lexed::new(kind, end)
 }
 
 // A string or an identifier, from after its opening quote, by bytes: no byte of ASCII lies inside a character. Of a character that is
@@ -555,48 +417,24 @@ pub fn read_string(text: &[u8], at: usize, quote: u8, success_type: u32, error_t
         let b = text[i];
         if b == b'\\' {
             if i + 1 == text.len() {
-                return Lexed {
-                    kind: error_type,
-                    end: i + 1,
-                };
+                return Lexed::new(error_type, i + 1);
             }
             i += 2;
             continue;
         }
         if b == quote {
             if byte_at(text, i + 1) != quote {
-                return Lexed {
-                    kind: success_type,
-                    end: i + 1,
-                };
+                return Lexed::new(success_type, i + 1);
             }
             i += 2;
             continue;
         }
         i = skip_to_either(text, i + 1, quote, b'\\');
     }
-    Lexed {
-        kind: error_type,
-        end: i,
-    }
+    Lexed::new(error_type, i)
 }
 
-// Whether the character at i is the closing quote E2 80 last.
-fn closes_curly(text: &[u8], i: usize, last: u8) -> bool
-    requires { (i < length text.now) × (0x80 ≤ last) × (last ≤ 0xBF) }
-    ensures { result ≡ eqb (char_at (drop i text.now)).code (curly_close last) }
-{
-    if text[i] != 0xE2 {
-        return false;
-    }
-    // `i + 2 < text.len()` could wrap.
-    if text.len() - i < 3 {
-        return false;
-    }
-    (text[i + 1] == 0x80) & (text[i + 2] == last)
-}
-
-// A string or an identifier in Unicode quotes, from after the opening one.
+// A string or an identifier in Unicode quotes, from after the opening one: the closing quote is E2 80 last.
 fn read_unicode_quoted(
     text: &[u8],
     at: usize,
@@ -604,23 +442,15 @@ fn read_unicode_quoted(
     success_type: u32,
     error_type: u32,
 ) -> Lexed
-    requires { (0x80 ≤ last) × (last ≤ 0xBF) }
+    requires { (at ≤ length text.now) × (0x80 ≤ last) × (last ≤ 0xBF) }
     ensures { result ≡ ends_at at (enclosed 0 (up_to (curly_close last) (chars (drop at text.now))) success_type error_type) }
 {
-    let mut i = at;
-    while i < text.len() {
-        if closes_curly(text, i, last) {
-            return Lexed {
-                kind: success_type,
-                end: i + 3,
-            };
+    for i in at..text.len() {
+        if (text[i], byte_at(text, i + 1), byte_at(text, i + 2)) == (0xE2, 0x80, last) {
+            return Lexed::new(success_type, i + 3);
         }
-        i += 1;
     }
-    Lexed {
-        kind: error_type,
-        end: i,
-    }
+    Lexed::new(error_type, text.len())
 }
 
 // Where the tag bytes from `at` on end.
@@ -628,31 +458,20 @@ fn tag_end(text: &[u8], at: usize) -> usize
     requires { at ≤ length text.now }
     ensures { TagEnd text.now at result }
 {
-    let mut i = skip_words(text, at);
-    while i < text.len() {
-        if !is_tag_byte(text[i]) {
-            return i;
-        }
-        i += 1;
-    }
-    i
+    let from = skip_words(text, at);
+    let rest = &text[from..];
+    from + rest
+        .iter()
+        .position(|b| !is_tag_byte(*b))
+        .unwrap_or(rest.len())
 }
 
 // Whether the delimiter stands at `at`.
 fn matches(text: &[u8], at: usize, delimiter: &[u8]) -> bool
-    requires { Ascii delimiter.now }
+    requires { (at ≤ length text.now) × Ascii delimiter.now }
     ensures { result ≡ begins delimiter.now (chars (drop at text.now)) }
 {
-    let mut i = at;
-    let mut k = 0;
-    while k < delimiter.len() {
-        if byte_at(text, i) != delimiter[k] {
-            return false;
-        }
-        i += 1;
-        k += 1;
-    }
-    true
+    text[at..].starts_with(delimiter)
 }
 
 // Where the first delimiter from `at` on ends, or 0. Bytes among which no `$` stands before the delimiter's second byte are gone over by eights.
@@ -683,10 +502,7 @@ fn read_dollar(text: &[u8], start: usize) -> Lexed
     requires { (start < length text.now) × (get_or text.now start 0 ≡ dollar) }
     ensures { result ≡ ends_at start (dollar_lexeme (here_doc (chars (drop (start + 1) text.now)))) }
 {
-    let lone = Lexed {
-        kind: SyntaxKind::DollarSign,
-        end: start + 1,
-    };
+    let lone = Lexed::new(SyntaxKind::DollarSign, start + 1);
     let tag = tag_end(text, start + 1);
     if byte_at(text, tag) != b'$' {
         return lone;
@@ -697,29 +513,25 @@ fn read_dollar(text: &[u8], start: usize) -> Lexed
     if end == 0 {
         return lone;
     }
-    Lexed {
-        kind: SyntaxKind::HereDoc,
-        end: end,
-    }
+    Lexed::new(SyntaxKind::HereDoc, end)
 }
 
-fn is_word_in(table: &ClassTable, c: u32, dollar: bool) -> bool
-    requires { Held table.now }
+fn is_word_in(c: u32, dollar: bool) -> bool
     ensures { result ≡ word_with dollar c }
 {
     if c < 0x80 {
         return is_word_byte(c as u8, dollar);
     }
-    classes::is_alphanumeric_in(table, c)
+    classes::is_alphanumeric(c)
 }
 
 // The bytes of the word character at `at`, or 0 where there is none.
-fn word_len(table: &ClassTable, text: &[u8], at: usize, dollar: bool) -> usize
-    requires { Held table.now }
+#[inline(never)]
+fn word_len(text: &[u8], at: usize, dollar: bool) -> usize
     ensures { Step (word_with dollar) text.now at result }
 {
     let u = unit_at(text, at);
-    if is_word_in(table, unit_code(u), dollar) {
+    if is_word_in(unit_code(u), dollar) {
         unit_len(u)
     } else {
         0
@@ -727,47 +539,33 @@ fn word_len(table: &ClassTable, text: &[u8], at: usize, dollar: bool) -> usize
 }
 
 // True only if `c` is a letter of Latin past ASCII up to U+02C1, of Cyrillic, Hebrew or Arabic. By comparisons, so that a word of such
-// letters makes no table.
+// letters asks no table.
 fn is_common_letter(c: u32) -> bool
     ensures { result ≡ true → alphabetic c ≡ true }
 {
-    (0xC0 <= c) & (c < 0xD7)
-        | (0xD8 <= c) & (c < 0xF7)
-        | (0xF8 <= c) & (c < 0x2C2)
-        | (0x400 <= c) & (c < 0x482)
-        | (0x5D0 <= c) & (c < 0x5EB)
-        | (0x620 <= c) & (c < 0x658)
-        | (0x66E <= c) & (c < 0x6D4)
+    matches!(
+        c,
+        0xC0..0xD7
+            | 0xD8..0xF7
+            | 0xF8..0x2C2
+            | 0x400..0x482
+            | 0x5D0..0x5EB
+            | 0x620..0x658
+            | 0x66E..0x6D4
+    )
 }
 
-// The bytes of such a letter at `at`, which are two, or 0 where there is none.
-fn common_len(text: &[u8], at: usize) -> usize
+// Such a letter stands at `at`: it has two bytes.
+fn is_common_at(text: &[u8], at: usize) -> bool
     requires { at < length text.now }
-    ensures { (result ≡ 0 → ⊥) → (d : Bool) → Step (word_with d) text.now at result }
+    ensures { result ≡ true → (d : Bool) → Step (word_with d) text.now at 2 }
 {
-    let a = byte_at(text, at);
+    let a = text[at];
     let b = byte_at(text, at + 1);
-    if ((0xC2 <= a) & (a <= 0xDF)) & is_tail(b) {
-        if is_common_letter(a as u32 % 32 * 64 + b as u32 % 64) {
-            return 2;
-        }
+    if a < 0xC2 || 0xDF < a || !is_tail(b) {
+        return false;
     }
-    0
-}
-
-// A word from its first character on that needs the table, which is made once, for all that is left.
-fn read_word_by_table(text: &[u8], at: usize, dollar: bool) -> usize
-    ensures { result ≡ at + run (word_with dollar) (chars (drop at text.now)) }
-{
-    let table = classes::class_table();
-    let mut j = at;
-    loop {
-        let n = word_len(&table, text, j, dollar);
-        if n == 0 {
-            return j;
-        }
-        j += n;
-    }
+    is_common_letter(a as u32 % 32 * 64 + b as u32 % 64)
 }
 
 // The characters that a word goes on over; `dollar`: with `$`, as a word that starts with a number has it.
@@ -784,13 +582,13 @@ fn read_word(text: &[u8], at: usize, dollar: bool) -> usize
         if b < 0x80 {
             return j;
         }
-        let n = common_len(text, j);
+        let n = if is_common_at(text, j) {
+            2
+        } else {
+            word_len(text, j, dollar)
+        };
         if n == 0 {
-            // Called at two places, it isn't inlined, and its table stays out of this frame.
-            if dollar {
-                return read_word_by_table(text, j, true);
-            }
-            return read_word_by_table(text, j, false);
+            return j;
         }
         j += n;
     }

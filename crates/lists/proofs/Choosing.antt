@@ -19,8 +19,10 @@ use Rattle.rules.proofs.Edges.{Tiles, tiles, tiles_le, tiles_count, from_start}
 use Rattle.rules.proofs.Listing.{only_yes, only_no, only_none, only-length, up_to_stop, up_to_step}
 use Rattle.lists.specs.declared.listing.Choice.{Choice}
 use Rattle.lexer.specs.declared.token.Lexed.{Lexed}
+use Rattle.lexer.specs.declared.token.Token.{Token as CodeToken}
 use Rattle.lexer.specs.Ends.{ends_at}
 use Rattle.lexer.proofs.Ends.{next_is, next_lies}
+use Rattle.edges.specs.Walks.{Comes}
 use Rattle.lists.specs.Choices.{keeps, chosen}
 
 -- Every token starts before the text's end.
@@ -97,6 +99,17 @@ module _ (c : Choice) (s : List ℕ) (i : ℕ) where
     pub chosen-drop : keeps c r.kind ≡ false → chosen c s i ≡ chosen c s r.end
     unfolding chosen
     chosen-drop k = step ∙ only_no (λ t. keeps c t.kind) (token r.kind i r.end) (only (starts_before c.position) (tokens_from s r.end)) k
+
+-- The token that comes at i on a walk.
+module _ (c : Choice) (s : List ℕ) (i : ℕ) (t : CodeToken) (end : ℕ) (n : Comes s i t end) (fits : c.position ≤ length s) (h : i < c.position) where
+  abbrev r : Lexed
+  r = record { kind = t.kind; end = t.end }
+
+  pub comes_keep : keeps c t.kind ≡ true → chosen c s i ≡ token t.kind t.start t.end ∷ chosen c s end
+  comes_keep k = chosen_keep c s i r n.lexed fits h k ∙ ap (λ (j : ℕ). token t.kind j t.end ∷ chosen c s t.end) (sym n.start) ∙ ap (λ (j : ℕ). token t.kind t.start t.end ∷ chosen c s j) n.upto
+
+  pub comes-drop : keeps c t.kind ≡ false → chosen c s i ≡ chosen c s end
+  comes-drop k = chosen-drop c s i r n.lexed fits h k ∙ ap (chosen c s) n.upto
 
 -- A kind's bit among those that are dropped, white space's and a comment's, tells whether it is kept.
 abbrev kept_by : Bool → Bool → ℕ → Bool

@@ -11,8 +11,8 @@ ghost use Rattle.lists.specs.Walks.{CountedOn, StoredOn};
 ghost use Rattle.lists.specs.Plans.{plan_of, Follows, Planned};
 
 use crate::packed::put_token;
-use ahead::{LOOK_AFTER, look_ahead, wasted_by};
-use edges::{find, is_long, leads, plain, read, taken};
+use ahead::{Marks, look_ahead};
+use edges::walk::Walk;
 use lexer::syntax_kind::SyntaxKind;
 use rules::refusal::Refusal;
 use rules::{max_query_size, token_bytes};
@@ -97,61 +97,40 @@ fn bit_if(test: bool, bit: u64) -> u64
 }
 
 // How far a text is counted: the tokens that are kept before a cursor.
-#[derive(Clone, Copy)]
+#[derive(Clone, Copy, Default)]
 pub struct Counted {
     pub cursor: usize,
     pub tokens: usize,
 }
 
 // Counts on to the end, or until it pays to look ahead.
-fn count_some(text: &[u8], choice: Choice, from: Counted, until: usize, lone: &[u64]) -> Counted
-    requires { (length text.now ≤ max_query_size) × (choice.position ≤ length text.now) × (from.cursor ≤ length text.now) × (from.tokens ≤ from.cursor) × Marked text.now from.cursor until lone.now }
+fn count_some(text: &[u8], choice: Choice, from: Counted, marks: Marks) -> Counted
+    requires { (length text.now ≤ max_query_size) × (choice.position ≤ length text.now) × (from.cursor ≤ length text.now) × (from.tokens ≤ from.cursor) × Marked text.now from.cursor marks.until marks.lone.now }
     ensures { CountedOn choice text.now from result }
 {
-    let leads = leads();
-    let mut stop = choice.position;
-    let mut wasted = 0;
-    let mut shy = false;
-    let mut base = 0;
-    let mut bits = 0;
+    let mut walk = Walk::new(text, from.cursor, choice.position, marks);
     let mut tokens = from.tokens;
-    let mut cursor = from.cursor;
-    while cursor < stop {
-        let start = cursor;
-        if bits == 0 {
-            base = start;
-            bits = find(text, start, shy);
-        }
-        let mut token = plain(&leads, text, start, base, bits);
-        if token.kind == SyntaxKind::NoToken {
-            let lexed = read(text, start, until, lone);
-            token = taken(lexed, base, bits);
-            shy = is_long(start, token.end);
-            let more = wasted_by(lexed, text.len());
-            if more != 0 {
-                wasted += more;
-                if wasted >= LOOK_AFTER {
-                    stop = 0;
-                }
-            }
-        }
-        cursor = token.end;
-        bits = token.bits;
+    while let Some(token) = walk.next() {
         if choice.keeps(token.kind) {
             tokens += 1;
         }
     }
-    Counted { cursor, tokens }
+    Counted {
+        cursor: walk.cursor,
+        tokens,
+    }
 }
 
 // Looks ahead, and counts on.
+#[cold]
+#[inline(never)]
 fn count_more(text: &[u8], choice: Choice, from: Counted) -> Counted
     requires { (length text.now ≤ max_query_size) × (choice.position ≤ length text.now) × (from.cursor ≤ length text.now) × (from.tokens ≤ from.cursor) }
     ensures { CountedOn choice text.now from result }
 {
-    let mut lone = [0u64; 4096];
+    let mut lone = [0; 4096];
     let until = look_ahead(text, from.cursor, &mut lone);
-    count_some(text, choice, from, until, &lone)
+    count_some(text, choice, from, Marks { until, lone: &lone })
 }
 
 // The list's length.
@@ -159,12 +138,7 @@ pub fn count(text: &[u8], choice: Choice) -> usize
     requires { (length text.now ≤ max_query_size) × (choice.position ≤ length text.now) }
     ensures { result ≡ length (chosen choice text.now 0) }
 {
-    let none = Counted {
-        cursor: 0,
-        tokens: 0,
-    };
-    let no_bits = [0u64; 1];
-    let mut at = count_some(text, choice, none, 0, &no_bits);
+    let mut at = count_some(text, choice, Counted::default(), Marks::none());
     while at.cursor < choice.position {
         at = count_more(text, choice, at);
     }
@@ -184,7 +158,7 @@ pub fn needed(text: &[u8], choice: Choice, room: usize) -> usize
 }
 
 // How far a list is stored: the bytes of the tokens that are kept before a cursor.
-#[derive(Clone, Copy)]
+#[derive(Clone, Copy, Default)]
 pub struct Stored {
     pub cursor: usize,
     pub bytes: usize,
@@ -196,56 +170,34 @@ fn fill_some(
     choice: Choice,
     list: &mut [u8],
     from: Stored,
-    until: usize,
-    lone: &[u64],
+    marks: Marks,
 ) -> Stored
-    requires { (length text.now ≤ max_query_size) × (choice.position ≤ length text.now) × (from.cursor ≤ length text.now) × (from.bytes + length (chosen choice text.now from.cursor) * token_bytes ≤ length list.old) × Marked text.now from.cursor until lone.now }
+    requires { (length text.now ≤ max_query_size) × (choice.position ≤ length text.now) × (from.cursor ≤ length text.now) × (from.bytes + length (chosen choice text.now from.cursor) * token_bytes ≤ length list.old) × Marked text.now from.cursor marks.until marks.lone.now }
     ensures { StoredOn choice text.now from list.old result list.new }
 {
-    let leads = leads();
-    let mut stop = choice.position;
-    let mut wasted = 0;
-    let mut shy = false;
-    let mut base = 0;
-    let mut bits = 0;
+    let mut walk = Walk::new(text, from.cursor, choice.position, marks);
     let mut bytes = from.bytes;
-    let mut cursor = from.cursor;
-    while cursor < stop {
-        let start = cursor;
-        if bits == 0 {
-            base = start;
-            bits = find(text, start, shy);
-        }
-        let mut token = plain(&leads, text, start, base, bits);
-        if token.kind == SyntaxKind::NoToken {
-            let lexed = read(text, start, until, lone);
-            token = taken(lexed, base, bits);
-            shy = is_long(start, token.end);
-            let more = wasted_by(lexed, text.len());
-            if more != 0 {
-                wasted += more;
-                if wasted >= LOOK_AFTER {
-                    stop = 0;
-                }
-            }
-        }
-        cursor = token.end;
-        bits = token.bits;
+    while let Some(token) = walk.next() {
         if choice.keeps(token.kind) {
-            bytes = put_token(list, bytes, token.kind, start as u32, cursor as u32);
+            bytes = put_token(list, bytes, token.kind, token.start, token.end);
         }
     }
-    Stored { cursor, bytes }
+    Stored {
+        cursor: walk.cursor,
+        bytes,
+    }
 }
 
 // Looks ahead, and stores on.
+#[cold]
+#[inline(never)]
 fn fill_more(text: &[u8], choice: Choice, list: &mut [u8], from: Stored) -> Stored
     requires { (length text.now ≤ max_query_size) × (choice.position ≤ length text.now) × (from.cursor ≤ length text.now) × (from.bytes + length (chosen choice text.now from.cursor) * token_bytes ≤ length list.old) }
     ensures { StoredOn choice text.now from list.old result list.new }
 {
-    let mut lone = [0u64; 4096];
+    let mut lone = [0; 4096];
     let until = look_ahead(text, from.cursor, &mut lone);
-    fill_some(text, choice, list, from, until, &lone)
+    fill_some(text, choice, list, from, Marks { until, lone: &lone })
 }
 
 // Stores the list, for which there is room, and answers its length.
@@ -253,16 +205,7 @@ fn fill(text: &[u8], choice: Choice, list: &mut [u8]) -> usize
     requires { (length text.now ≤ max_query_size) × (choice.position ≤ length text.now) × (length (chosen choice text.now 0) * token_bytes ≤ length list.old) }
     ensures { let ts = chosen choice text.now 0 in (result ≡ length ts) × (list.new ≡ filled (pack ts) list.old) }
 {
-    // A walk makes its table first, which an empty list does not need.
-    if choice.position == 0 {
-        return 0;
-    }
-    let none = Stored {
-        cursor: 0,
-        bytes: 0,
-    };
-    let no_bits = [0u64; 1];
-    let mut at = fill_some(text, choice, list, none, 0, &no_bits);
+    let mut at = fill_some(text, choice, list, Stored::default(), Marks::none());
     while at.cursor < choice.position {
         at = fill_more(text, choice, list, at);
     }

@@ -11,10 +11,10 @@ ghost use Rattle.lists.specs.Plans.{plan_of, stored_by, Follows};
 ghost use Rattle.lists.specs.Picks.{Answered, Fits, Ready, ReadOn, Picks, answer_by, records_from, records_of};
 
 use crate::listing::{Choice, Plan, count, needed};
-use ahead::{LOOK_AFTER, look_ahead, wasted_by};
+use ahead::{LOOK_AFTER, Marks, look_ahead, wasted_by};
 use edges::read;
 use lexer::syntax_kind::SyntaxKind;
-use lexer::token::{Token, end_of, kind_of};
+use lexer::token::Token;
 use rules::refusal::Refusal;
 
 // How far a list is picked: by which plan, and from where on the next token is looked for. `until` and `wasted` are of the looks ahead.
@@ -132,12 +132,13 @@ fn read_on(text: &[u8], at: &mut Picking, lone: &mut [u64]) -> Token
 {
     look_on(text, at, lone);
     let start = at.cursor;
-    let lexed = read(text, start, at.until, lone);
-    let end = end_of(lexed);
+    let until = at.until;
+    let found = read(text, start, Marks { until, lone });
+    let end = found.token.end;
     at.cursor = end;
-    at.wasted += wasted_by(lexed, text.len());
+    at.wasted += wasted_by(found, text.len());
     Token {
-        kind: kind_of(lexed) % 64,
+        kind: found.token.kind,
         start: start as u32,
         end: end as u32,
     }

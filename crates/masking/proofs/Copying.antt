@@ -14,8 +14,10 @@ use Rattle.rules.proofs.Visible.{Fit, Fits, mask_length}
 use Rattle.rules.proofs.Masked.{length-masked, fits_from}
 use Rattle.rules.proofs.Edges.{from_start, from_step, from_end}
 use Rattle.lexer.specs.declared.token.Lexed.{Lexed}
+use Rattle.lexer.specs.declared.token.Token.{Token as CodeToken}
 use Rattle.lexer.specs.Ends.{ends_at}
 use Rattle.lexer.proofs.Ends.{next_is, next_lies}
+use Rattle.edges.specs.Walks.{Comes}
 use Rattle.masking.specs.Spans.{bytes_of, Span}
 use Rattle.masking.specs.Walks.{Copied}
 use Rattle.masking.proofs.Spans.{span_length}
@@ -58,7 +60,7 @@ module _ (s copy₀ : List ℕ) (room : length s ≤ length copy₀) where
     listed : tokens_from s i ≡ token r.kind i r.end ∷ tokens_from s r.end
     listed = from_step s i h ∙ ap (λ (t : Token). t ∷ tokens_from s t.end) (next_is s i r e)
 
-    pub next_apart : Fit r.kind bs
+    next_apart : Fit r.kind bs
     next_apart = (subst (λ (ts : List Token). Fits ts (drop i s)) listed (fits_from s i)).1
 
     rest : drop (r.end - i) (drop i s) ≡ drop r.end s
@@ -73,7 +75,7 @@ module _ (s copy₀ : List ℕ) (room : length s ≤ length copy₀) where
     cut : drop i s ≡ bs ++ drop r.end s
     cut = sym (take-append-drop (r.end - i) (drop i s)) ∙ ap (λ (l : List ℕ). bs ++ l) rest
 
-    pub copied_more : (copy copy' : List ℕ) → Copied s copy₀ copy i → copy' ≡ hide (i + front r.kind bs) (r.end - back r.kind bs) copy → Copied s copy₀ copy' r.end
+    copied_more : (copy copy' : List ℕ) → Copied s copy₀ copy i → copy' ≡ hide (i + front r.kind bs) (r.end - back r.kind bs) copy → Copied s copy₀ copy' r.end
     unfolding mask_token
     copied_more copy copy' c f =
         let l = span_length s i r.end next_span in
@@ -96,7 +98,7 @@ module _ (s copy₀ : List ℕ) (room : length s ≤ length copy₀) where
         }
 
     -- a kind that hides nothing leaves the copy as it is
-    pub copied_same : (copy : List ℕ) → hiding_kind r.kind ≡ false → Copied s copy₀ copy i → Copied s copy₀ copy r.end
+    copied_same : (copy : List ℕ) → hiding_kind r.kind ≡ false → Copied s copy₀ copy i → Copied s copy₀ copy r.end
     copied_same copy k c =
         let a = keeps_all r.kind bs k in
         let l = span_length s i r.end next_span in
@@ -104,3 +106,23 @@ module _ (s copy₀ : List ℕ) (room : length s ≤ length copy₀) where
         let from : i + front r.kind bs ≡ r.end = omega arith in
         let to : r.end - back r.kind bs ≡ r.end = omega arith in
         copied_more copy copy c (rw (from, to) (sym (hide_none r.end copy)))
+
+  -- the token that comes on a walk
+  module _ (i : ℕ) (t : CodeToken) (end : ℕ) (n : Comes s i t end) where
+    abbrev r : Lexed
+    r = record { kind = t.kind; end = t.end }
+
+    within : i < length s
+    within = omega (arith, n.moves, n.inside)
+
+    pub came_apart : Fit t.kind (bytes_of s t.start t.end)
+    came_apart = subst (λ (j : ℕ). Fit t.kind (bytes_of s j t.end)) (sym n.start) (next_apart i within r n.lexed)
+
+    pub came_more : (copy copy' : List ℕ) → Copied s copy₀ copy i
+        → copy' ≡ hide (t.start + front t.kind (bytes_of s t.start t.end)) (t.end - back t.kind (bytes_of s t.start t.end)) copy → Copied s copy₀ copy' end
+    came_more copy copy' c f =
+        subst (Copied s copy₀ copy') n.upto
+        (copied_more i within r n.lexed copy copy' c (f ∙ ap (λ (j : ℕ). hide (j + front t.kind (bytes_of s j t.end)) (t.end - back t.kind (bytes_of s j t.end)) copy) n.start))
+
+    pub came_same : (copy : List ℕ) → hiding_kind t.kind ≡ false → Copied s copy₀ copy i → Copied s copy₀ copy end
+    came_same copy k c = subst (Copied s copy₀ copy) n.upto (copied_same i within r n.lexed copy k c)

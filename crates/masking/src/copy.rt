@@ -8,8 +8,8 @@ ghost use Rattle.ahead.specs.Marks.{Marked};
 ghost use Rattle.masking.specs.Spans.{bytes_of, Span, Hiding};
 ghost use Rattle.masking.specs.Walks.{MaskedOn};
 
-use ahead::{LOOK_AFTER, look_ahead, wasted_by};
-use edges::{find, is_long, leads, plain, read, taken};
+use ahead::{Marks, look_ahead};
+use edges::walk::Walk;
 use lexer::syntax_kind::SyntaxKind;
 use rules::refusal::Refusal;
 use rules::{mask_byte, max_query_size};
@@ -100,50 +100,29 @@ fn mask_token(text: &[u8], copy: &mut [u8], kind: u32, start: usize, end: usize)
 }
 
 // Masks on from a cursor to the end, or until it pays to look ahead, and gives the cursor then.
-fn mask_some(text: &[u8], copy: &mut [u8], from: usize, until: usize, lone: &[u64]) -> usize
-    requires { (length text.now ≤ max_query_size) × (from ≤ length text.now) × (length text.now ≤ length copy.old) × Marked text.now from until lone.now }
+fn mask_some(text: &[u8], copy: &mut [u8], from: usize, marks: Marks) -> usize
+    requires { (length text.now ≤ max_query_size) × (from ≤ length text.now) × (length text.now ≤ length copy.old) × Marked text.now from marks.until marks.lone.now }
     ensures { MaskedOn text.now from copy.old result copy.new }
 {
-    let leads = leads();
-    let mut stop = text.len();
-    let mut wasted = 0;
-    let mut shy = false;
-    let mut base = 0;
-    let mut bits = 0;
-    let mut cursor = from;
-    while cursor < stop {
-        let start = cursor;
-        if bits == 0 {
-            base = start;
-            bits = find(text, start, shy);
-        }
-        let mut token = plain(&leads, text, start, base, bits);
-        if token.kind == SyntaxKind::NoToken {
-            let lexed = read(text, start, until, lone);
-            token = taken(lexed, base, bits);
-            shy = is_long(start, token.end);
-            wasted += wasted_by(lexed, text.len());
-            if wasted >= LOOK_AFTER {
-                stop = 0;
-            }
-        }
-        cursor = token.end;
-        bits = token.bits;
+    let mut walk = Walk::new(text, from, text.len(), marks);
+    while let Some(token) = walk.next() {
         if hides(token.kind) {
-            mask_token(text, copy, token.kind, start, cursor);
+            mask_token(text, copy, token.kind, token.start as usize, token.end as usize);
         }
     }
-    cursor
+    walk.cursor
 }
 
 // Looks ahead, and masks on.
+#[cold]
+#[inline(never)]
 fn mask_more(text: &[u8], copy: &mut [u8], from: usize) -> usize
     requires { (length text.now ≤ max_query_size) × (from ≤ length text.now) × (length text.now ≤ length copy.old) }
     ensures { MaskedOn text.now from copy.old result copy.new }
 {
-    let mut lone = [0u64; 4096];
+    let mut lone = [0; 4096];
     let until = look_ahead(text, from, &mut lone);
-    mask_some(text, copy, from, until, &lone)
+    mask_some(text, copy, from, Marks { until, lone: &lone })
 }
 
 // Masks the tokens of a text in a copy that begins with it.
@@ -151,12 +130,7 @@ fn mask_tokens(text: &[u8], copy: &mut [u8])
     requires { (length text.now ≤ max_query_size) × (copy.old ≡ filled text.now copy.old) }
     ensures { copy.new ≡ filled (masked text.now) copy.old }
 {
-    // A walk makes its table first, which an empty text does not need.
-    if text.len() == 0 {
-        return;
-    }
-    let no_bits = [0u64; 1];
-    let mut at = mask_some(text, copy, 0, 0, &no_bits);
+    let mut at = mask_some(text, copy, 0, Marks::none());
     while at < text.len() {
         at = mask_more(text, copy, at);
     }

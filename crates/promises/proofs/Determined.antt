@@ -2,7 +2,6 @@
 -- `ended` and `Learnt` are the toolchain's own for each function: how its parameters end, and what its contract tells a caller.
 -- Every public function of the libraries is here but those that docs/PROMISES.md names: some leave a choice that no answer shows.
 -- Assumes nothing.
-use Prim.Native.Nat.{ℕ, ◌/◌, ◌%◌, ◌^◌}
 use mathlib.Core.Path.{◌≡◌, refl, sym, ap, ◌∙◌}
 use Rattle.rules.proofs as rules
 use Rattle.rules.specs.contracts as rules_says
@@ -19,7 +18,6 @@ use Rattle.lexer.proofs.token as token
 use Rattle.lexer.specs.contracts.token as token_says
 use Rattle.lexer.proofs.tokenizer as tokenizer
 use Rattle.lexer.specs.contracts.tokenizer as tokenizer_says
-use Rattle.lexer.specs.declared.token.Lexed.{Lexed}
 use Rattle.steps.proofs as steps
 use Rattle.steps.specs.contracts as steps_says
 use Rattle.runs.proofs as runs
@@ -170,12 +168,6 @@ is_alphabetic κs a r s u v p q = (same p q, refl)
 pub is_alphanumeric : Determined classes_says.is_alphanumeric.ended classes.is_alphanumeric.Reads.Learnt
 is_alphanumeric κs a r s u v p q = (same p q, refl)
 
-pub class_table : Determined classes_says.class_table.ended classes.class_table.Reads.Learnt
-class_table κs a r s u v p q = (same p.both q.both, refl)
-
-pub is_alphanumeric_in : Determined classes_says.is_alphanumeric_in.ended classes.is_alphanumeric_in.Reads.Learnt
-is_alphanumeric_in κs a r s u v p q = (same p q, refl)
-
 pub probe_valid_length : Determined probe_says.probe_valid_length.ended probe.probe_valid_length.Reads.Learnt
 probe_valid_length κs a r s u v p q = (same p q, refl)
 
@@ -200,14 +192,8 @@ next_token κs a r s u v p q = (same p q, refl)
 pub is_tag_byte : Determined bytes_says.is_tag_byte.ended bytes.is_tag_byte.Reads.Learnt
 is_tag_byte κs a r s u v p q = (same p q, refl)
 
-pub join : Determined token_says.join.ended token.join.Reads.Learnt
-join κs a r s u v p q = (same p q, refl)
-
-pub kind_of : Determined token_says.kind_of.ended token.kind_of.Reads.Learnt
-kind_of κs a r s u v p q = (same p q, refl)
-
-pub end_of : Determined token_says.end_of.ended token.end_of.Reads.Learnt
-end_of κs a r s u v p q = (same p q, refl)
+pub new_lexed : Determined token_says.Lexed.new.ended token.Lexed.new.Reads.Learnt
+new_lexed κs a r s u v p q = (same p q, refl)
 
 pub read_string : Determined tokenizer_says.read_string.ended tokenizer.read_string.Reads.Learnt
 read_string κs a r s u v p q = (same p q, refl)
@@ -227,18 +213,12 @@ block_edges κs a r s u v p q = (same p q, refl)
 pub wasted_by : Determined ahead_says.wasted_by.ended ahead.wasted_by.Reads.Learnt
 wasted_by κs a r s u v p q = (same p.0 q.0, refl)
 
--- The lexeme that a number has: of its bit 38 the two contracts below say nothing.
-abbrev lexed_in : ℕ → Lexed
-lexed_in r = record { kind = r / 2 ^ 32 % 64; end = r % 2 ^ 32 }
-
-pub read_dollar : DeterminedAs ahead_says.read_dollar.ended ahead.read_dollar.Reads.Learnt (λ κs r. lexed_in r)
+-- The token that is found: of whether a search was in vain the two contracts below say nothing.
+pub read_dollar : DeterminedAs ahead_says.read_dollar.ended ahead.read_dollar.Reads.Learnt (λ κs r. r.token)
 read_dollar κs a r s u v p q = (same p q, refl)
 
-pub read_plainly : DeterminedAs edges_says.read.ended edges.read.Reads.Learnt (λ κs r. lexed_in r)
+pub read_plainly : DeterminedAs edges_says.read.ended edges.read.Reads.Learnt (λ κs r. r.token)
 read_plainly κs a r s u v p q = (same p q, refl)
-
-pub leads : Determined edges_says.leads.ended edges.leads.Reads.Learnt
-leads κs a r s u v p q = (same p q, refl)
 
 pub is_long : Determined edges_says.is_long.ended edges.is_long.Reads.Learnt
 is_long κs a r s u v p q = (same p q, refl)

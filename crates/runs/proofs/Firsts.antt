@@ -42,6 +42,10 @@ no_bits : (m : ℕ) → count_trailing_zeros 0 m / 8 ≡ 0
 unfolding count_trailing_zeros
 no_bits m = refl
 
+-- A loop that has come from i to j over bytes that pass.
+abbrev pub Over : Bool → List ℕ → List ℕ → ℕ → ℕ → Type 0
+Over out es s i j = (i ≤ j) × (j ≤ length s) × ((k : ℕ) → i ≤ k → k < j → passes out es (get_or s k 0) ≡ true)
+
 module _ (out : Bool) (es : List ℕ) (a : Ascii es) (s : List ℕ) (fits : (k : ℕ) → get_or s k 0 < 256) where
   abbrev p : ℕ → Bool
   p k = passes out es (get_or s k 0)
@@ -117,12 +121,8 @@ module _ (out : Bool) (es : List ℕ) (a : Ascii es) (s : List ℕ) (fits : (k :
           let q : first_at (suc n) i ≡ 0 = ap (λ (t : ℕ). t / 8) z in
           subst (λ (x : ℕ). First (suc n) i x (marks_at (suc n) i)) (sym q) (at_once n i (marks_at (suc n) i) e)
 
-  -- A loop that has come from i to j, by eight bytes at a time.
-  abbrev pub Over : ℕ → ℕ → Type 0
-  Over i j = (i ≤ j) × (j ≤ length s) × ((k : ℕ) → i ≤ k → k < j → p k ≡ true)
-
-  module _ (i j : ℕ) (o : Over i j) (h : j + 8 ≤ length s) where
-    passed : (q : ℕ) → q ≤ 8 → ((k : ℕ) → k < q → p (j + k) ≡ true) → Over i (j + q)
+  module _ (i j : ℕ) (o : Over out es s i j) (h : j + 8 ≤ length s) where
+    passed : (q : ℕ) → q ≤ 8 → ((k : ℕ) → k < q → p (j + k) ≡ true) → Over out es s i (j + q)
     passed q l f = (let u = o.0 in omega arith, omega arith, go)
       where
         go : (k : ℕ) → i ≤ k → k < j + q → p k ≡ true
@@ -144,11 +144,11 @@ module _ (out : Bool) (es : List ℕ) (a : Ascii es) (s : List ℕ) (fits : (k :
     over_ends m e n = subst (λ (m : ℕ). Skips (passes out es) s i (j + count_trailing_zeros 64 m / 8)) (sym e) (ends (first_at 8 j) (marks_at 8 j) (first 8 j) (λ z. n (e ∙ z)))
 
     -- none is
-    all : (q m : ℕ) → First 8 j q m → q ≡ 8 → Over i (j + 8)
+    all : (q m : ℕ) → First 8 j q m → q ≡ 8 → Over out es s i (j + 8)
     all q m f e = passed 8 (omega arith) (λ k l. f.pass k (omega arith))
 
-    pub over_more : (m : ℕ) → m ≡ marks_at 8 j → m ≡ 0 → Over i (j + 8)
+    pub over_more : (m : ℕ) → m ≡ marks_at 8 j → m ≡ 0 → Over out es s i (j + 8)
     over_more m e z = all (first_at 8 j) (marks_at 8 j) (first 8 j) (ap (λ (m : ℕ). count_trailing_zeros 64 m / 8) (sym e ∙ z) ∙ ap (λ (t : ℕ). t / 8) (trailing_of_zero 64))
 
-  pub over_all : (i j : ℕ) → Over i j → length s - j < 8 → Skips (passes out es) s i j
+  pub over_all : (i j : ℕ) → Over out es s i j → length s - j < 8 → Skips (passes out es) s i j
   over_all i j o h = record { from = o.0; upto = o.1; pass = o.2; stop = λ l. absurd (omega arith) }

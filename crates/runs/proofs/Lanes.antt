@@ -6,8 +6,11 @@ use mathlib.Core.Path.{◌≡◌, refl, sym, ap, ap₂, ◌∙◌}
 use mathlib.Core.List.{List, [], ◌∷◌}
 use mathlib.Core.Bool.{Bool, true, false, not, cond, ◌&&◌}
 use native.Mathlib.Decide.{dec_lt}
-use lib.Bits.{bit_and, bit_or, bit_xor, and_block, or_block, xor_block, or_lt, xor_lt, and_le_r, and_shr, or_shr, xor_shr, and_mod, and_zero_r, xor_zero_r, and_mask}
+use lib.Bits.{bit_and, bit_or, bit_xor, and_block, or_block, xor_block, or_lt, xor_lt, and_le_r, and_shr, or_shr, xor_shr, and_mod, and_zero_r, and_mask}
+use lib.ListN.{length, get_or, drop}
+use lib.Seq.{drop-cons}
 use lib.Dec.{leb}
+use Rattle.std.proofs.Common.{add-one}
 use borrow.Author.Tests.{leb-true, leb-false, lt-ltb, le-ltb}
 use Rattle.runs.specs.Classes.{Ascii, past, inside, passes}
 use Rattle.runs.specs.Lanes.{ones, raised, others, marks}
@@ -16,17 +19,12 @@ times_ones : (c n : ℕ) → c * ones (suc n) ≡ (c * ones n) * 256 + c
 unfolding ones
 times_ones c n = mul-add c (ones n * 256) 1 ∙ ap₂ ◌+◌ (sym (mul_assoc c (ones n) 256)) (mul-one c)
 
--- eight edges, as the code raises by them
-module _ (n y : ℕ) where
-  abbrev raise : ℕ → ℕ
-  raise e = y + (0x80 - e) * ones n
-
-  pub raised_eight : (a b c d e f g h : ℕ) → {a' b' c' d' e' f' g' h' : ℕ}
-      → a' ≡ raise a → b' ≡ raise b → c' ≡ raise c → d' ≡ raise d → e' ≡ raise e → f' ≡ raise f → g' ≡ raise g → h' ≡ raise h
-      → bit_xor a' (bit_xor b' (bit_xor c' (bit_xor d' (bit_xor e' (bit_xor f' (bit_xor g' h')))))) ≡ raised n (a ∷ b ∷ c ∷ d ∷ e ∷ f ∷ g ∷ h ∷ []) y
-  unfolding raised
-  raised_eight a b c d e f g h pa pb pc pd pe pf pg ph =
-      ap₂ bit_xor pa (ap₂ bit_xor pb (ap₂ bit_xor pc (ap₂ bit_xor pd (ap₂ bit_xor pe (ap₂ bit_xor pf (ap₂ bit_xor pg (ph ∙ sym (xor_zero_r (raise h)))))))))
+-- the edges from one on, and the next one's
+pub raised_next :
+    (n y : ℕ) (es : List ℕ) (i : ℕ) → i < length es
+    → raised n (drop i es) y ≡ bit_xor (y + (0x80 - get_or es i 0) * ones n) (raised n (drop (i + 1) es) y)
+unfolding raised
+raised_next n y es i h = rw (add-one, drop-cons es i 0 h) refl
 
 raised_low : (es : List ℕ) → Ascii es → (y : ℕ) → y < 128 → raised 1 es y < 256
 unfolding raised ones

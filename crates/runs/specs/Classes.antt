@@ -1,14 +1,16 @@
 -- Classes of bytes of ASCII by their edges, and runs of a class.
 use Rattle.std.specs.Prelude.{ℕ, ◌+◌, ◌-◌, ◌≤◌, ◌<◌, ◌≡◌, List, [], ◌∷◌, Bool, true, false, not, cond, ◌&&◌, length, get_or, leb, ltb}
+use Rattle.std.specs.Coded.{×_prop, Unit-prop, le_prop}
 
 -- No edge lies past the end of ASCII.
 abbrev pub Ascii : List ℕ → Type 0
 Ascii [] = Unit
 Ascii (e ∷ es) = (e ≤ 0x80) × Ascii es
 
--- Four pairs of such edges.
-abbrev pub Edges : List ℕ → Type 0
-Edges es = (length es ≡ 8) × Ascii es
+-- A fact of which there is one proof at most.
+pub Ascii-prop : (es : List ℕ) → IsProp (Ascii es)
+Ascii-prop [] = Unit-prop
+Ascii-prop (e ∷ es) = ×_prop le_prop (Ascii-prop es)
 
 -- An odd number of the edges are at most b.
 unfoldable pub past : List ℕ → ℕ → Bool

@@ -2,32 +2,50 @@
 #![tactic(auto)]
 
 ghost use Rattle.std.specs.Prelude.{◌≡◌, Bool, true, false, ◌&&◌, ◌++◌, ℕ, ◌+◌, ◌-◌, ◌*◌, ◌≤◌, ◌<◌, length, get_or, drop};
-ghost use Rattle.runs.specs.Classes.{Edges, inside, passes, Skips, Unpaired};
+ghost use Rattle.runs.specs.Classes.{Ascii, Ascii-prop, inside, passes, Skips, Unpaired};
 ghost use Rattle.runs.specs.Lanes.{ones, packed, others};
 
 // A class of bytes of ASCII: from one edge on and below the next, of which there are four pairs. Two equal ones bound nothing.
-pub type Class = [u8; 8];
-
-// The two bytes from i on as one number, the first lowest; then four, and eight. It becomes one load.
-fn two(text: &[u8], i: usize) -> u64
-    requires { i + 2 ≤ length text.now }
-    ensures { result ≡ packed 2 text.now i }
-{
-    text[i] as u64 + text[i + 1] as u64 * 0x100
+#[derive(Clone, Copy)]
+pub struct Class {
+    pub edges: [u8; 8],
+    pub ghost eight: { length edges ≡ 8 },
+    pub ghost ascii: { Ascii edges } by { Ascii-prop edges },
 }
 
-fn four(text: &[u8], i: usize) -> u64
-    requires { i + 4 ≤ length text.now }
-    ensures { result ≡ packed 4 text.now i }
-{
-    two(text, i) + two(text, i + 2) * 0x1_0000
+impl Class {
+    pub const WORDS: Class = Class {
+        edges: [b'0', b':', b'A', b'[', b'_', b'`', b'a', b'{'],
+    };
+
+    pub const DIGITS: Class = Class {
+        edges: [b'0', b':', 0, 0, 0, 0, 0, 0],
+    };
+
+    pub const SPACES: Class = Class {
+        edges: [b'\t', 14, b' ', b'!', 0, 0, 0, 0],
+    };
+    // Digits and white space.
+    pub const FIGURES: Class = Class {
+        edges: [b'\t', 14, b' ', b'!', b'0', b':', 0, 0],
+    };
 }
 
+// The eight bytes from i on as one number, the first lowest. It becomes one load.
 pub fn eight(text: &[u8], i: usize) -> u64
     requires { i + 8 ≤ length text.now }
     ensures { result ≡ packed 8 text.now i }
 {
-    four(text, i) + four(text, i + 4) * 0x1_0000_0000
+    u64::from_le_bytes([
+        text[i],
+        text[i + 1],
+        text[i + 2],
+        text[i + 3],
+        text[i + 4],
+        text[i + 5],
+        text[i + 6],
+        text[i + 7],
+    ])
 }
 
 // Each byte of y is below 80, and so none of the sums runs over into the next.
@@ -39,31 +57,28 @@ fn raised(y: u64, edge: u8) -> u64
 }
 
 // The high bit of each byte that is not in the class.
-pub fn others(x: u64, k: Class) -> u64
-    requires { Edges k }
-    ensures { result ≡ others 8 k x }
+pub fn others(x: u64, class: Class) -> u64
+    ensures { result ≡ others 8 class.edges x }
 {
     let y = x & 0x7F7F_7F7F_7F7F_7F7F;
-    let w = raised(y, k[0])
-        ^ (raised(y, k[1])
-            ^ (raised(y, k[2])
-                ^ (raised(y, k[3])
-                    ^ (raised(y, k[4])
-                        ^ (raised(y, k[5]) ^ (raised(y, k[6]) ^ raised(y, k[7])))))));
-    ((w ^ 0x8080_8080_8080_8080) | x) & 0x8080_8080_8080_8080
+    let mut outside = 0x8080_8080_8080_8080;
+    for edge in class.edges {
+        outside ^= raised(y, edge);
+    }
+    (outside | x) & 0x8080_8080_8080_8080
 }
 
 // Where the bytes from `at` on end that are in the class; or, where `out`, those that are not.
-pub fn skip(text: &[u8], at: usize, out: bool, k: Class) -> usize
-    requires { (at ≤ length text.now) × Edges k }
-    ensures { Skips (passes out k) text.now at result }
+pub fn skip(text: &[u8], at: usize, out: bool, class: Class) -> usize
+    requires { at ≤ length text.now }
+    ensures { Skips (passes out class.edges) text.now at result }
 {
     let flip = if out { 0x8080_8080_8080_8080 } else { 0 };
     let mut j = at;
     while text.len() - j >= 8 {
-        let m = others(eight(text, j), k) ^ flip;
+        let m = others(eight(text, j), class) ^ flip;
         if m != 0 {
-            return j + (u64::trailing_zeros(m) / 8) as usize;
+            return j + (m.trailing_zeros() / 8) as usize;
         }
         j += 8;
     }
@@ -72,22 +87,19 @@ pub fn skip(text: &[u8], at: usize, out: bool, k: Class) -> usize
 
 // True only if none of the eight bytes from i on is of the first class before one of the second.
 fn no_pairs(text: &[u8], i: usize, a: Class, b: Class) -> bool
-    requires { (i + 9 ≤ length text.now) × Edges a × Edges b }
-    ensures { result ≡ true → (k : ℕ) → k < 8 → (inside a (get_or text.now (i + k) 0) && inside b (get_or text.now (i + 1 + k) 0)) ≡ false }
+    requires { i + 9 ≤ length text.now }
+    ensures { result ≡ true → (k : ℕ) → k < 8 → (inside a.edges (get_or text.now (i + k) 0) && inside b.edges (get_or text.now (i + 1 + k) 0)) ≡ false }
 {
     (others(eight(text, i), a) | others(eight(text, i + 1), b)) == 0x8080_8080_8080_8080
 }
 
 // Over bytes none of which is of the first class before one of the second, eight at a time, but of the last eight perhaps none.
 pub fn skip_pairs(text: &[u8], at: usize, a: Class, b: Class) -> usize
-    requires { (at ≤ length text.now) × Edges a × Edges b }
-    ensures { Unpaired (inside a) (inside b) text.now at result }
+    requires { at ≤ length text.now }
+    ensures { Unpaired (inside a.edges) (inside b.edges) text.now at result }
 {
     let mut i = at;
-    while text.len() - i >= 9 {
-        if !no_pairs(text, i, a, b) {
-            return i;
-        }
+    while text.len() - i >= 9 && no_pairs(text, i, a, b) {
         i += 8;
     }
     i
@@ -98,9 +110,5 @@ pub fn copy_front(text: &[u8], copy: &mut [u8])
     requires { length text.now ≤ length copy.old }
     ensures { let s = text.now in copy.new ≡ s ++ drop (length s) copy.old }
 {
-    let mut i = 0;
-    while i < text.len() {
-        copy[i] = text[i];
-        i += 1;
-    }
+    copy[..text.len()].copy_from_slice(text);
 }

@@ -2,7 +2,7 @@
 use Prim.Native.Nat.{ℕ, suc, ◌+◌, ◌≤◌, ◌<◌}
 use native.Mathlib.Omega.{arith}
 use native.Mathlib.Decide.{dec_lt}
-use mathlib.Core.Path.{◌≡◌, refl, sym, ap, ap₂, ◌∙◌}
+use mathlib.Core.Path.{◌≡◌, refl, sym, ap, ap₂, subst, ◌∙◌}
 use mathlib.Core.List.{List, ◌∷◌}
 use mathlib.Core.Bool.{true, false}
 use lib.ListN.{length, drop}
@@ -12,8 +12,10 @@ use Rattle.rules.specs.Statements.{delimiter, Statement, statement, one_more, fi
 use Rattle.rules.proofs.Edges.{from_end, from_start, from_step}
 use Rattle.rules.proofs.Statements.{first_none, first_here, first_later}
 use Rattle.lexer.specs.declared.token.Lexed.{Lexed}
+use Rattle.lexer.specs.declared.token.Token.{Token as CodeToken}
 use Rattle.lexer.specs.Ends.{ends_at}
 use Rattle.lexer.proofs.Ends.{next_is, next_lies}
+use Rattle.edges.specs.Walks.{Comes}
 use Rattle.statements.specs.declared.Reading.{Reading}
 use Rattle.statements.specs.Walks.{read_up_to, Open, found}
 
@@ -74,17 +76,34 @@ module _ (s : List ℕ) where
     lies = next_lies s r.cursor x h e
 
     -- a delimiter, with which the walk ends,
-    pub read-delimiter : delimiter x.kind ≡ true → found s (read_up_to x.end (r.tokens + 1) r.cursor) ≡ found s r
+    read-delimiter : delimiter x.kind ≡ true → found s (read_up_to x.end (r.tokens + 1) r.cursor) ≡ found s r
     read-delimiter d = found-past (read_up_to x.end (r.tokens + 1) r.cursor) lies.0 ∙ sym (before (statement 1 r.cursor x.end) (first_here (length s) t (tokens_from s x.end) d))
 
     -- or any other
-    pub still_open : Open s (read_up_to x.end (r.tokens + 1) r.bytes)
+    still_open : Open s (read_up_to x.end (r.tokens + 1) r.bytes)
     still_open = let k = o.few in let l = lies.0 in record { inside = lies.1; few = omega arith; bytes = o.bytes }
 
-    pub read_other : delimiter x.kind ≡ false → found s (read_up_to x.end (r.tokens + 1) r.bytes) ≡ found s r
+    read_other : delimiter x.kind ≡ false → found s (read_up_to x.end (r.tokens + 1) r.bytes) ≡ found s r
     read_other d =
         let c = first_from x.end in
         let z : r.tokens + 1 + c.tokens ≡ r.tokens + suc c.tokens = omega arith in
         found_open (read_up_to x.end (r.tokens + 1) r.bytes) still_open
         ∙ ap (λ (m : ℕ). statement m c.bytes c.end) z
         ∙ sym (before (one_more c) (first_later (length s) t (tokens_from s x.end) d))
+
+  -- the token that comes on a walk
+  module _ (r : Reading) (o : Open s r) (t : CodeToken) (end : ℕ) (n : Comes s r.cursor t end) where
+    abbrev x : Lexed
+    x = record { kind = t.kind; end = t.end }
+
+    within : r.cursor < length s
+    within = omega (arith, n.moves, n.inside)
+
+    pub came_delimiter : delimiter t.kind ≡ true → found s (read_up_to end (r.tokens + 1) t.start) ≡ found s r
+    came_delimiter d = ap₂ (λ (e b : ℕ). found s (read_up_to e (r.tokens + 1) b)) (sym n.upto) n.start ∙ read-delimiter r o within x n.lexed d
+
+    pub came_open : Open s (read_up_to end (r.tokens + 1) r.bytes)
+    came_open = subst (λ (e : ℕ). Open s (read_up_to e (r.tokens + 1) r.bytes)) n.upto (still_open r o within x n.lexed)
+
+    pub came_other : delimiter t.kind ≡ false → found s (read_up_to end (r.tokens + 1) r.bytes) ≡ found s r
+    came_other d = ap (λ (e : ℕ). found s (read_up_to e (r.tokens + 1) r.bytes)) (sym n.upto) ∙ read_other r o within x n.lexed d

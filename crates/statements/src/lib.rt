@@ -8,8 +8,8 @@ ghost use Rattle.ahead.specs.Marks.{Marked};
 ghost use Rattle.statements.specs.First.{first};
 ghost use Rattle.statements.specs.Walks.{read_up_to, Open, ReadOn};
 
-use ahead::{LOOK_AFTER, look_ahead, wasted_by};
-use edges::{find, is_long, leads, plain, read, taken};
+use ahead::{Marks, look_ahead};
+use edges::walk::Walk;
 use lexer::syntax_kind::SyntaxKind;
 use rules::max_query_size;
 use rules::refusal::Refusal;
@@ -48,52 +48,31 @@ fn is_delimiter(kind: u32) -> bool
 }
 
 // Reads on to the first delimiter or the text's end, or until it pays to look ahead.
-fn read_some(text: &[u8], from: Reading, until: usize, lone: &[u64]) -> Reading
-    requires { (length text.now ≤ max_query_size) × Open text.now from × Marked text.now from.cursor until lone.now }
+fn read_some(text: &[u8], from: Reading, marks: Marks) -> Reading
+    requires { (length text.now ≤ max_query_size) × Open text.now from × Marked text.now from.cursor marks.until marks.lone.now }
     ensures { ReadOn text.now from result }
 {
-    let leads = leads();
-    let mut stop = text.len();
-    let mut wasted = 0;
-    let mut shy = false;
-    let mut base = 0;
-    let mut bits = 0;
+    let mut walk = Walk::new(text, from.cursor, text.len(), marks);
     let mut tokens = from.tokens;
-    let mut cursor = from.cursor;
-    while cursor < stop {
-        let start = cursor;
-        if bits == 0 {
-            base = start;
-            bits = find(text, start, shy);
-        }
-        let mut token = plain(&leads, text, start, base, bits);
-        if token.kind == SyntaxKind::NoToken {
-            let lexed = read(text, start, until, lone);
-            token = taken(lexed, base, bits);
-            shy = is_long(start, token.end);
-            wasted += wasted_by(lexed, text.len());
-            if wasted >= LOOK_AFTER {
-                stop = 0;
-            }
-        }
-        cursor = token.end;
-        bits = token.bits;
+    while let Some(token) = walk.next() {
         tokens += 1;
         if is_delimiter(token.kind) {
-            return read_up_to(cursor, tokens, start);
+            return read_up_to(walk.cursor, tokens, token.start as usize);
         }
     }
-    read_up_to(cursor, tokens, text.len())
+    read_up_to(walk.cursor, tokens, text.len())
 }
 
 // Looks ahead, and reads on.
+#[cold]
+#[inline(never)]
 fn read_more(text: &[u8], from: Reading) -> Reading
     requires { (length text.now ≤ max_query_size) × Open text.now from }
     ensures { ReadOn text.now from result }
 {
-    let mut lone = [0u64; 4096];
+    let mut lone = [0; 4096];
     let until = look_ahead(text, from.cursor, &mut lone);
-    read_some(text, from, until, &lone)
+    read_some(text, from, Marks { until, lone: &lone })
 }
 
 // The text is not tested for UTF-8.
@@ -109,8 +88,7 @@ pub fn first_statement(text: &[u8]) -> Result<First, Refusal>
         tokens: 0,
         bytes: size,
     };
-    let no_bits = [0u64; 1];
-    let mut at = read_some(text, none, 0, &no_bits);
+    let mut at = read_some(text, none, Marks::none());
     while at.cursor < at.bytes {
         at = read_more(text, at);
     }

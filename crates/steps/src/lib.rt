@@ -5,7 +5,7 @@ ghost use Rattle.std.specs.Prelude.{◌≡◌};
 ghost use Rattle.rules.specs.Answers.{step};
 ghost use Rattle.steps.specs.Stepped.{stepped};
 
-use lexer::token::{Token, end_of, kind_of};
+use lexer::token::Token;
 use lexer::tokenizer::next_token;
 use rules::max_query_size;
 use rules::refusal::Refusal;
@@ -20,10 +20,10 @@ pub fn step(text: &[u8], cursor: usize) -> Result<Token, Refusal>
     if cursor > text.len() {
         return Err(Refusal::Beyond);
     }
-    let l = next_token(&text[0..], cursor);
+    let l = next_token(text, cursor);
     Ok(Token {
-        kind: kind_of(l),
+        kind: l.kind,
         start: cursor as u32,
-        end: end_of(l) as u32,
+        end: l.end as u32,
     })
 }

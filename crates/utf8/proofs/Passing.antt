@@ -1,14 +1,12 @@
--- Going past well-formed characters: one, a byte of ASCII, a block of such bytes that are joined and tested once, two blocks; and where that ends.
+-- Going past well-formed characters: one, a byte of ASCII, a block of such bytes that are joined and tested once; and where that ends.
 -- Assumes nothing.
 use Prim.Native.Nat.{ℕ, ◌+◌, ◌≤◌, ◌<◌}
 use mathlib.Core.Path.{◌≡◌, refl, sym, ◌∙◌}
 use mathlib.Core.List.{List}
-use mathlib.Core.Bool.{Bool, true, ◌&&◌}
 use native.Mathlib.Omega.{arith}
 use lib.Bits.{bit_or, or_add_and, and_le_l, and_le_r}
 use lib.ListN.{length, get_or, drop}
 use Rattle.rules.specs.Utf8.{well_formed, valid_length}
-use Rattle.rules.proofs.Tests.{and_both}
 use Rattle.rules.proofs.Decoding.{at_index, formed-one, valid-at, valid_stop, valid_end}
 use Rattle.utf8.specs.Units.{Passes}
 
@@ -46,12 +44,3 @@ pass_more s i k {x} h p l =
     let o = or_low x (get_or s (i + k) 0) l in
     let e : (i + k) + 1 ≡ i + (k + 1) = omega arith in
     rw e at (pass_byte s i (i + k) (p o.0) h o.1)
-
--- two parts, one after the other, each where its test says so
-pub pass_and : (s : List ℕ) (i j k : ℕ) (a b : Bool) → (a ≡ true → Passes s i j) → (b ≡ true → Passes s j k) → (a && b) ≡ true → Passes s i k
-pass_and s i j k a b p q e = let h = and_both a b e in pass_on s i j k (p h.0) (q h.1)
-
--- two blocks of n bytes each
-pub pass_two : {s : List ℕ} {i k : ℕ} {a b : Bool} (n : ℕ) → (a ≡ true → Passes s i (i + n)) → (b ≡ true → Passes s (i + n) ((i + n) + n))
-    → k ≡ (i + n) + n → (a && b) ≡ true → Passes s i k
-pass_two {s} {i} {a} {b} n p q f e = rw f (pass_and s i (i + n) ((i + n) + n) a b p q e)

@@ -9,11 +9,10 @@ use borrow.Author.Tests.{not-true, ltb-true, le-leb, lt-leb, leb-true, leb-false
 use lib.Dec.{leb, ltb, eqb}
 use lib.ListN.{length, get_or, drop}
 use Rattle.rules.specs.Utf8.{within, utf8_tail, utf8_three, well_formed}
-use Rattle.rules.proofs.Tests.{and_both, or_cases, cond_ind}
+use Rattle.rules.proofs.Tests.{and_both, or_cases}
 use Rattle.rules.proofs.Decoding.{at_index, formed-two, formed-three, three-first, three_surrogate, three_other}
-use Rattle.utf8.specs.Units.{Passes, after_tail, after_tails, takes_tail}
+use Rattle.utf8.specs.Units.{Passes, after, takes_tail}
 use Rattle.utf8.proofs.Passing.{pass_none, pass_char, pass_first}
-use Rattle.utf8.proofs.Pairs.{after-within}
 
 beq_eq : (a b : Bool) → beq a b ≡ true → a ≡ b
 beq_eq true true h = refl
@@ -56,24 +55,17 @@ below_three a e w = ⊎_elim
     or-true false = refl
 
 module _ (s : List ℕ) (i : ℕ) where
-  pub tails_within : i + 1 < length s → after_tails s i ≤ length s
-  tails_within h = cond_ind (λ (n : ℕ). n ≤ length s) (utf8_tail (get_or s i 0)) (after_tail s (i + 1)) i (λ e. after-within s (i + 1) h) (λ e. omega arith)
-
-  -- by the outcome v of the code's test t of a byte that it has read
-  pub tails_read : {b : ℕ} {t : Bool} (v : Bool) → b ≡ get_or s i 0 → t ≡ utf8_tail b → t ≡ v → after_tails s i ≡ cond v (after_tail s (i + 1)) i
-  tails_read v eb e q = ap (λ (t : Bool). cond t (after_tail s (i + 1)) i) (sym (rw eb at e) ∙ q)
-
   module _ (h : i + 2 < length s) where
     -- a tail that is passed already, or a byte of ASCII
-    pub pass_last : get_or s i 0 < 0xC0 → utf8_tail (get_or s (i + 1) 0) ≡ false → Passes s (after_tails s i) (after_tails s (i + 1))
+    pub pass_last : get_or s i 0 < 0xC0 → utf8_tail (get_or s (i + 1) 0) ≡ false → Passes s (after 2 s i) (after 2 s (i + 1))
     pass_last u none = go (leb 0x80 (get_or s i 0)) refl
       where
-        go : (x : Bool) → leb 0x80 (get_or s i 0) ≡ x → Passes s (after_tails s i) (after_tails s (i + 1))
+        go : (x : Bool) → leb 0x80 (get_or s i 0) ≡ x → Passes s (after 2 s i) (after 2 s (i + 1))
         go true e = rw (e, le-leb (get_or s i 0) 0xBF (omega arith), none) (pass_none s (i + 1) (omega arith))
         go false e = rw (e, none) (pass_first s i (omega arith) (leb-false 0x80 (get_or s i 0) e))
 
     -- the first byte of three, and its tails
-    pass_three : 0xE0 ≤ get_or s i 0 → get_or s i 0 < 0xF0 → utf8_three (get_or s i 0) (get_or s (i + 1) 0) (get_or s (i + 2) 0) ≡ true → utf8_tail (get_or s (i + 1) 0) ≡ true → utf8_tail (get_or s ((i + 1) + 1) 0) ≡ true → Passes s (after_tails s i) (after_tails s (i + 1))
+    pass_three : 0xE0 ≤ get_or s i 0 → get_or s i 0 < 0xF0 → utf8_three (get_or s i 0) (get_or s (i + 1) 0) (get_or s (i + 2) 0) ≡ true → utf8_tail (get_or s (i + 1) 0) ≡ true → utf8_tail (get_or s ((i + 1) + 1) 0) ≡ true → Passes s (after 2 s i) (after 2 s (i + 1))
     pass_three l u three tb tc =
         let lead : utf8_tail (get_or s i 0) ≡ false = rw (le-leb 0x80 (get_or s i 0) (omega arith), lt-leb (get_or s i 0) 0xBF (omega arith)) in
         let f : well_formed (drop i s) ≡ 3 = at_index s i ∙ formed-three _ _ _ _ l u ∙ ap (λ (t : Bool). cond t 3 0) three in
@@ -81,7 +73,7 @@ module _ (s : List ℕ) (i : ℕ) where
         rw (lead, tb, tc) (rw n at (pass_char s i i 3 (pass_none s i (omega arith)) (omega arith) (sym f) (λ z. omega arith)))
 
     -- the first byte of two, or a tail that is passed already, and the tail
-    pass_two_of : (utf8_tail (get_or s i 0) || within 0xC2 0xDF (get_or s i 0)) ≡ true → utf8_tail (get_or s (i + 1) 0) ≡ true → utf8_tail (get_or s ((i + 1) + 1) 0) ≡ false → Passes s (after_tails s i) (after_tails s (i + 1))
+    pass_two_of : (utf8_tail (get_or s i 0) || within 0xC2 0xDF (get_or s i 0)) ≡ true → utf8_tail (get_or s (i + 1) 0) ≡ true → utf8_tail (get_or s ((i + 1) + 1) 0) ≡ false → Passes s (after 2 s i) (after 2 s (i + 1))
     pass_two_of e tb tc = ⊎_elim
         (λ (ta : utf8_tail (get_or s i 0) ≡ true). rw (ta, tb, tc) (pass_none s ((i + 1) + 1) (omega arith)))
         (λ w.
@@ -95,7 +87,7 @@ module _ (s : List ℕ) (i : ℕ) where
         (or_cases (utf8_tail (get_or s i 0)) (within 0xC2 0xDF (get_or s i 0)) e)
 
     -- a tail that may come after the byte: a third byte is a tail where the first begins three
-    pub pass_tail : {m three : Bool} → takes_tail (get_or s i 0) (get_or s (i + 1) 0) ≡ true → m ≡ utf8_tail (get_or s (i + 2) 0) → three ≡ within 0xE0 0xEF (get_or s i 0) → m ≡ three → utf8_tail (get_or s (i + 1) 0) ≡ true → Passes s (after_tails s i) (after_tails s (i + 1))
+    pub pass_tail : {m three : Bool} → takes_tail (get_or s i 0) (get_or s (i + 1) 0) ≡ true → m ≡ utf8_tail (get_or s (i + 2) 0) → three ≡ within 0xE0 0xEF (get_or s i 0) → m ≡ three → utf8_tail (get_or s (i + 1) 0) ≡ true → Passes s (after 2 s i) (after 2 s (i + 1))
     pass_tail e em et q tb = go (within 0xE0 0xEF (get_or s i 0)) refl
       where
         n : (i + 1) + 1 ≡ i + 2
@@ -107,7 +99,7 @@ module _ (s : List ℕ) (i : ℕ) where
         parts : ((utf8_tail (get_or s i 0) || within 0xC2 0xEF (get_or s i 0)) ≡ true) × (((not (eqb (get_or s i 0) 0xE0) || leb 0xA0 (get_or s (i + 1) 0)) && (not (eqb (get_or s i 0) 0xED) || leb (get_or s (i + 1) 0) 0x9F)) ≡ true)
         parts = and_both (utf8_tail (get_or s i 0) || within 0xC2 0xEF (get_or s i 0)) ((not (eqb (get_or s i 0) 0xE0) || leb 0xA0 (get_or s (i + 1) 0)) && (not (eqb (get_or s i 0) 0xED) || leb (get_or s (i + 1) 0) 0x9F)) e
 
-        go : (w : Bool) → within 0xE0 0xEF (get_or s i 0) ≡ w → Passes s (after_tails s i) (after_tails s (i + 1))
+        go : (w : Bool) → within 0xE0 0xEF (get_or s i 0) ≡ w → Passes s (after 2 s i) (after 2 s (i + 1))
         go true w =
             let b = and_both (leb 0xE0 (get_or s i 0)) (leb (get_or s i 0) 0xEF) w in
             let l = leb-true 0xE0 (get_or s i 0) b.0 in
@@ -117,7 +109,7 @@ module _ (s : List ℕ) (i : ℕ) where
         go false w = pass_two_of (below_three (get_or s i 0) parts.0 w) tb (third ∙ w)
 
     -- by the code's tests: t of the second byte, m of the third, k of the first two
-    pub pass_triple : {t m k : Bool} → t ≡ utf8_tail (get_or s (i + 1) 0) → m ≡ utf8_tail (get_or s (i + 2) 0) → k ≡ takes_tail (get_or s i 0) (get_or s (i + 1) 0) → ((not t && ltb (get_or s i 0) 0xC0) || (t && (k && beq m (within 0xE0 0xEF (get_or s i 0))))) ≡ true → Passes s (after_tails s i) (after_tails s (i + 1))
+    pub pass_triple : {t m k : Bool} → t ≡ utf8_tail (get_or s (i + 1) 0) → m ≡ utf8_tail (get_or s (i + 2) 0) → k ≡ takes_tail (get_or s i 0) (get_or s (i + 1) 0) → ((not t && ltb (get_or s i 0) 0xC0) || (t && (k && beq m (within 0xE0 0xEF (get_or s i 0))))) ≡ true → Passes s (after 2 s i) (after 2 s (i + 1))
     pass_triple {t} {m} {k} et em ek e = ⊎_elim
         (λ x. let b = and_both (not t) (ltb (get_or s i 0) 0xC0) x in pass_last (ltb-true (get_or s i 0) 0xC0 b.1) (sym et ∙ not-true t b.0))
         (λ y.

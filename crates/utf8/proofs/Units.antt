@@ -4,6 +4,7 @@ use mathlib.Core.Path.{◌≡◌, refl, sym, ap, ◌∙◌}
 use mathlib.Core.List.{List, [], ◌∷◌}
 use native.Mathlib.Nat.{not-suc-le-zero}
 use native.Mathlib.Omega.{arith}
+use Rattle.std.proofs.Common.{Option, Some, None}
 use lib.ListN.{length, drop, drop_of_length-le, length-drop}
 use lib.Seq.{drop-drop}
 use Rattle.rules.specs.Utf8.{width, no_code, well_formed, broken_length, code_of, char_of, char_at, chars_after, chars}
@@ -11,7 +12,18 @@ use Rattle.rules.specs.Lexeme.{first}
 use Rattle.rules.proofs.Decoding.{ends_within, broken_range, broken-within, width-broken, width-formed, chars-cons}
 use Rattle.utf8.specs.declared.Unit.{Unit as AnyUnit}
 use Rattle.utf8.specs.declared.Unit.TheVariants as unit
-use Rattle.utf8.specs.Units.{unit_of, unit_at, unit_code, unit_len}
+use Rattle.utf8.specs.Units.{some_length, unit_of, unit_at, unit_code, unit_len}
+
+-- what a length says that is there, and one that is not
+pub some_is : (m w : ℕ) {r : Option ℕ} → r ≡ some_length m → r ≡ Some w → (w ≡ m) × (w ≡ 0 → ⊥)
+some_is zero w e f = cc
+some_is (suc m) w e f =
+    let p : suc m ≡ w = cc in
+    (sym p, λ z. omega arith)
+
+pub none_is : (m : ℕ) {r : Option ℕ} → r ≡ some_length m → r ≡ None → m ≡ 0
+none_is zero e f = refl
+none_is (suc m) e f = cc
 
 -- the unit by the form
 pub unit_end : (s : List ℕ) (i : ℕ) → length s ≤ i → unit_at (drop i s) ≡ unit.End

@@ -1,8 +1,13 @@
 -- What a text has at a position, in the code's own enum; and what it is for a text to be well-formed from one index to another.
-use Rattle.std.specs.Prelude.{ℕ, zero, suc, ◌+◌, ◌≤◌, ◌≡◌, List, [], ◌∷◌, Bool, not, cond, ◌&&◌, ◌||◌, leb, eqb, length, get_or, drop}
+use Rattle.std.specs.Prelude.{ℕ, zero, suc, ◌+◌, ◌≤◌, ◌≡◌, List, [], ◌∷◌, Bool, not, cond, ◌&&◌, ◌||◌, Option, Some, None, leb, eqb, length, get_or, drop}
 use Rattle.rules.specs.Utf8.{within, utf8_tail, no_code, well_formed, broken_length, code_of, valid_length}
 use Rattle.utf8.specs.declared.Unit.{Unit}
 use Rattle.utf8.specs.declared.Unit.TheVariants.{Char, Broken, End}
+
+-- A length, where 0 stands for none.
+abbrev pub some_length : ℕ → Option ℕ
+some_length zero = None
+some_length (suc w) = Some (suc w)
 
 -- A character of length w that a text begins with; a broken one where w is 0.
 abbrev pub unit_of : ℕ → List ℕ → Unit
@@ -32,13 +37,10 @@ pub record Passes (s : List ℕ) (i j : ℕ) : Type 0 where
   pub upto : j ≤ length s
   pub rest : valid_length (drop i s) + i ≡ valid_length (drop j s) + j
 
--- The index i, or the next where the byte at i is a tail: where a character begins next, if none is longer than two bytes.
-abbrev pub after_tail : List ℕ → ℕ → ℕ
-after_tail s i = cond (utf8_tail (get_or s i 0)) (i + 1) i
-
--- Past two tails: where a character begins next, if none is longer than three.
-abbrev pub after_tails : List ℕ → ℕ → ℕ
-after_tails s i = cond (utf8_tail (get_or s i 0)) (after_tail s (i + 1)) i
+-- Past at most n tails from i on: where a character begins next, if none has more.
+abbrev pub after : ℕ → List ℕ → ℕ → ℕ
+after zero s i = i
+after (suc n) s i = cond (utf8_tail (get_or s i 0)) (after n s (i + 1)) i
 
 -- A tail b may come after a: a tail, or the first of two bytes or of three. E0 and ED bound the second.
 abbrev pub takes_tail : ℕ → ℕ → Bool

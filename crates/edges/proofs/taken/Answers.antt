@@ -1,0 +1,6 @@
+-- What was read is handed on, and the edges after its end are left.
+use Rattle.lexer.proofs.Ends.{next_lies}
+use Rattle.edges.proofs.taken.Goals as goal
+
+pub returns : goal.returns
+returns c = λ s start h e b. (e, c.left.ensures s start (next_lies s start _ h e).0 b)
