@@ -55,11 +55,7 @@ pub fn tokenize_up_to_position_records(
 pub fn records_64(settings: Settings, text: &[u8]) -> [Token; 64]
     ensures { result ≡ (record_listing settings.mode text.now no_records).records }
 {
-    let mut list = [Token {
-        kind: 0,
-        start: 0,
-        end: 0,
-    }; 64];
+    let mut list = [Token::default(); 64];
     let _ = tokenize_records(settings, text, &mut list);
     list
 }
@@ -68,11 +64,7 @@ pub fn records_64(settings: Settings, text: &[u8]) -> [Token; 64]
 pub fn records_64_up_to(settings: Settings, text: &[u8]) -> [Token; 64]
     ensures { result ≡ (record_listing_up_to settings.mode settings.position text.now no_records).records }
 {
-    let mut list = [Token {
-        kind: 0,
-        start: 0,
-        end: 0,
-    }; 64];
+    let mut list = [Token::default(); 64];
     let _ = tokenize_up_to_position_records(settings, text, &mut list);
     list
 }

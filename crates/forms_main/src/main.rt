@@ -9,6 +9,7 @@ use forms::records::{records_64, records_64_up_to};
 use lexer::token::Token;
 use lists::listing::{Settings, tokenize, tokenize_up_to_position};
 use lists::packed::put_token;
+use rules::refusal::Refusal;
 use rules::{TOKEN_BYTES, token_bytes};
 use std::io;
 
@@ -31,30 +32,28 @@ fn pack_records(records: [Token; 64], list: &mut [u8])
     }
 }
 
-fn same(a: &[u8], b: &[u8]) -> bool {
-    a == b
-}
-
 fn whole_agrees(settings: Settings, text: &[u8]) -> bool {
     let mut list = space();
-    tokenize(settings, text, &mut list);
+    let _ = tokenize(settings, text, &mut list);
     let mut own = space();
     pack_records(records_64(settings, text), &mut own);
-    same(&list, &own)
+    list == own
 }
 
 fn up_to_agrees(settings: Settings, text: &[u8]) -> bool {
     let mut list = space();
-    tokenize_up_to_position(settings, text, &mut list);
+    let _ = tokenize_up_to_position(settings, text, &mut list);
     let mut own = space();
     pack_records(records_64_up_to(settings, text), &mut own);
-    same(&list, &own)
+    list == own
 }
 
-fn one_unless(agrees: bool) -> usize
-    ensures { result ≤ 1 }
-{
-    if agrees { 0 } else { 1 }
+// As a number and a value.
+fn numbers(answer: Result<usize, Refusal>) -> (u32, usize) {
+    match answer {
+        Ok(value) => (0, value),
+        Err(refusal) => (refusal.number(), refusal.value()),
+    }
 }
 
 // The reader does not test for UTF-8, and refuses a text that is too long without its two tokens: its list is compared where `tokenize` answers neither 1 nor 2.
@@ -65,15 +64,13 @@ fn compare_reader(rt: &impl Print, text: &[u8]) -> io::Result<usize>
     let answer = tokenize(Settings::new(), text, &mut list);
     let mut own = space();
     let read = read_all(text, &mut own);
-    let number = answer.number();
-    let value = answer.value();
-    let own_number = read.number();
-    let own_value = read.value();
+    let (number, value) = numbers(answer);
+    let (own_number, own_value) = numbers(read);
     print!(rt; "{number} {value}, reader {own_number} {own_value}, ")?;
-    if (number == 1) | (number == 2) {
+    if let Err(Refusal::TooLong(_) | Refusal::NotUtf8(_)) = answer {
         return Ok(0);
     }
-    Ok(one_unless((number == own_number) & (value == own_value) & same(&list, &own)))
+    Ok(usize::from(answer != read || list != own))
 }
 
 fn compare(rt: &impl Print, text: &[u8]) -> io::Result<()> {
@@ -81,11 +78,11 @@ fn compare(rt: &impl Print, text: &[u8]) -> io::Result<()> {
     let full = Settings::new().set_position(3);
     let lean = full.set_include_whitespace(false);
     let mut differences = compare_reader(rt, text)?;
-    differences += one_unless(whole_agrees(full, text));
-    differences += one_unless(whole_agrees(lean, text));
-    differences += one_unless(whole_agrees(full.set_mode(2), text));
-    differences += one_unless(up_to_agrees(full, text));
-    differences += one_unless(up_to_agrees(lean, text));
+    differences += usize::from(!whole_agrees(full, text));
+    differences += usize::from(!whole_agrees(lean, text));
+    differences += usize::from(!whole_agrees(full.set_mode(2), text));
+    differences += usize::from(!up_to_agrees(full, text));
+    differences += usize::from(!up_to_agrees(lean, text));
     println!(rt; "{differences} differences")
 }
 

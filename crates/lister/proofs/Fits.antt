@@ -12,8 +12,7 @@ use Rattle.rules.specs.Limits.{token_bytes}
 use Rattle.rules.specs.Tokens.{Token}
 use Rattle.rules.specs.Listing.{whole_list, room}
 use Rattle.rules.specs.Answers.{Done, TooLong, too_long, no_mode, Written, stored, too_long_list, listing}
-use Rattle.rules.specs.declared.answer.Answer.{Answer}
-use Rattle.rules.specs.Cases.{number_of, value_of, written}
+use Rattle.rules.specs.Cases.{Answer, number_of, value_of, written}
 
 abbrev Fits : List ℕ → Written → Type 0
 Fits list w = w.number ≡ Done → w.value * token_bytes ≤ length list

@@ -5,10 +5,9 @@ ghost use Rattle.std.specs.Prelude.{◌≡◌, ◌*◌, ◌≤◌, length};
 ghost use Rattle.rules.specs.Limits.{token_bytes};
 ghost use Rattle.lister.specs.Input.{count_of, ReadSome, ReadText};
 
-use lexer::token::Token;
 use lists::listing::{Settings, tokenize};
 use lists::packed::get_token;
-use rules::answer::Answer;
+use rules::refusal::Refusal;
 use rules::{TOKEN_BYTES, token_bytes};
 use std::io;
 use std::io::Read;
@@ -33,43 +32,28 @@ fn list_space() -> [u8; LIST_SPACE]
     [0; LIST_SPACE]
 }
 
-#[derive(Clone, Copy)]
-enum Input {
-    Bytes(usize),
-    Failed,
-}
-
-fn read_some<R: Read>(input: &mut R, part: &mut [u8]) -> Input
+// How many bytes one read gave, or nothing where it failed.
+fn read_some<R: Read>(input: &mut R, part: &mut [u8]) -> Option<usize>
     ensures bound { count_of result ≤ length part.new }
     ensures bytes { ReadSome (R.remaining input.old) (R.remaining input.new) result part.new }
 {
-    match input.read(part) {
-        Ok(n) => Input::Bytes(n),
-        Err(_) => Input::Failed,
-    }
+    input.read(part).ok()
 }
 
-// Reads until the text is full or the input ends: a pipe gives its bytes in pieces.
-fn read_text<R: Read>(input: &mut R, text: &mut [u8]) -> Input
+// Reads until the text is full or the input ends: a pipe gives its bytes in pieces. It answers nothing where a read fails.
+fn read_text<R: Read>(input: &mut R, text: &mut [u8]) -> Option<usize>
     ensures bound { count_of result ≤ length text.new }
     ensures bytes { ReadText (R.remaining input.old) (R.remaining input.new) result text.new }
 {
     let mut n = 0;
     while n < text.len() {
-        let some = read_some(input, &mut text[n..]);
-        let Input::Bytes(more) = some else {
-            return Input::Failed;
-        };
+        let more = read_some(input, &mut text[n..])?;
         if more == 0 {
             break;
         }
         n += more;
     }
-    Input::Bytes(n)
-}
-
-fn print_token(rt: &impl Print, token: Token) -> io::Result<()> {
-    println!(rt; "{} {} {}", token.kind, token.start, token.end)
+    Some(n)
 }
 
 fn print_tokens(rt: &impl Print, list: &[u8], tokens: usize) -> io::Result<()>
@@ -77,7 +61,8 @@ fn print_tokens(rt: &impl Print, list: &[u8], tokens: usize) -> io::Result<()>
 {
     let mut at = 0;
     for _ in 0..tokens {
-        print_token(rt, get_token(list, at))?;
+        let token = get_token(list, at);
+        println!(rt; "{token}")?;
         at += token_bytes();
     }
     Ok(())
@@ -87,29 +72,28 @@ fn print_end(rt: &impl Print, tokens: usize, bytes: usize) -> io::Result<()> {
     println!(rt; "end {tokens} {bytes}")
 }
 
-fn print_refusal(rt: &impl Print, answer: Answer) -> io::Result<()> {
-    println!(rt; "refused {} {}", answer.number(), answer.value())
+fn print_refusal(rt: &impl Print, refusal: Refusal) -> io::Result<()> {
+    println!(rt; "refused {refusal}")
 }
 
 fn print_list(rt: &impl Print, text: &[u8]) -> io::Result<()> {
     let mut list = list_space();
-    let answer = tokenize(Settings::new(), text, &mut list);
-    if answer.number() != 0 {
-        return print_refusal(rt, answer);
+    match tokenize(Settings::new(), text, &mut list) {
+        Ok(tokens) => {
+            print_tokens(rt, &list, tokens)?;
+            print_end(rt, tokens, text.len())
+        }
+        Err(refusal) => print_refusal(rt, refusal),
     }
-    let tokens = answer.value();
-    print_tokens(rt, &list, tokens)?;
-    print_end(rt, tokens, text.len())
 }
 
 fn main(rt: HostRuntime) -> io::Result<()> {
     let mut text = text_space();
-    let input = read_text(&mut rt.stdin(), &mut text);
-    let Input::Bytes(n) = input else {
+    let Some(n) = read_text(&mut rt.stdin(), &mut text) else {
         return rt.eprintln("lister: standard input can't be read");
     };
     if n > MOST_BYTES {
-        return print_refusal(&rt, Answer::TooLong(0));
+        return print_refusal(&rt, Refusal::TooLong(0));
     }
     print_list(&rt, &text[..n])
 }

@@ -13,8 +13,7 @@ use Rattle.rules.specs.Tokens.{Token}
 use Rattle.rules.specs.Listing.{full, whole_list, pack, room}
 use Rattle.rules.specs.Answers.{Written, Done, TooLong, NotUtf8, NoRoom, NoMode, too_long, no_mode, refused, filled, stored, too_long_list, listing}
 use Rattle.rules.proofs.Listing.{length-pack}
-use Rattle.rules.specs.declared.answer.Answer.{Answer}
-use Rattle.rules.specs.Cases.{number_of, value_of, written}
+use Rattle.rules.specs.Cases.{Answer, number_of, value_of, written}
 
 second : (b : Bool) (x y : Written) → (x.number ≡ 0 → ⊥) → (cond b x y).number ≡ 0 → cond b x y ≡ y
 second true x y h e = absurd (h e)

@@ -1,5 +1,5 @@
 // One case of the file of answers.
-ghost use Rattle.std.specs.Prelude.{◌≡◌, ◌*◌, ◌≤◌, true, false, length, take};
+ghost use Rattle.std.specs.Prelude.{◌≡◌, ◌*◌, ◌≤◌, ◌<◌, true, length, IfSome};
 ghost use Rattle.rules.specs.Limits.{token_bytes};
 ghost use Rattle.rules.specs.Listing.{full, whole_list, pack};
 ghost use Rattle.replay.specs.Cases.{text_of, list_of};
@@ -10,28 +10,11 @@ use rules::TOKEN_BYTES;
 
 #[derive(Clone, Copy)]
 pub struct Case {
-    // In bytes, of the whole case; 0 where the file is cut short.
+    // In bytes, of the whole case.
     pub size: usize,
     // In the stored list.
     pub tokens: usize,
     pub agrees: bool,
-}
-
-fn cut() -> Case
-    ensures { (result.size ≡ 0) × (result.tokens ≡ 0) × (result.agrees ≡ false) }
-{
-    Case {
-        size: 0,
-        tokens: 0,
-        agrees: false,
-    }
-}
-
-// Whether s has the list at its start.
-fn begins(s: &[u8], list: &[u8]) -> bool
-    ensures { result ≡ true → take (length list.now) s.now ≡ list.now }
-{
-    s.starts_with(list)
 }
 
 // No text of the file has over 250 bytes, and so not over 250 tokens.
@@ -43,41 +26,37 @@ fn agrees(text: &[u8], tokens: usize, list: &[u8]) -> bool
     ensures { result ≡ true → list.now ≡ pack (whole_list full text.now) }
 {
     let mut own = [0u8; OWN_SPACE];
-    let answer = tokenize(Settings::new(), text, &mut own);
-    if answer.number() != 0 {
-        return false;
+    match tokenize(Settings::new(), text, &mut own) {
+        Ok(stored) => (stored == tokens) & own.starts_with(list),
+        Err(_) => false,
     }
-    if answer.value() != tokens {
-        return false;
-    }
-    begins(&own, list)
 }
 
-// The case at the start of what is left of the file.
-pub fn read_case(rest: &[u8]) -> Case
-    ensures size_in_bounds { (result.size ≤ length rest.now) × (result.tokens ≤ result.size) }
-    ensures rest_value { result.agrees ≡ true → list_of rest.now ≡ pack (whole_list full (text_of rest.now)) }
+// The case at the start of what is left of the file, or nothing where it is cut short.
+pub fn read_case(rest: &[u8]) -> Option<Case>
+    ensures size_in_bounds { IfSome result (λ case. (0 < case.size) × (case.size ≤ length rest.now) × (case.tokens ≤ case.size)) }
+    ensures rest_value { IfSome result (λ case. case.agrees ≡ true → list_of rest.now ≡ pack (whole_list full (text_of rest.now))) }
 {
     if rest.len() < 4 {
-        return cut();
+        return None;
     }
     let text_len = get_u32(rest, 0) as usize;
     if rest.len() - 4 < text_len {
-        return cut();
+        return None;
     }
     let text_end = 4 + text_len;
     let after = &rest[text_end..];
     if after.len() < 4 {
-        return cut();
+        return None;
     }
     let tokens = get_u32(after, 0) as usize;
     if (after.len() - 4) / TOKEN_BYTES < tokens {
-        return cut();
+        return None;
     }
     let list_end = 4 + tokens * TOKEN_BYTES;
-    Case {
+    Some(Case {
         size: text_end + list_end,
         tokens,
         agrees: agrees(&rest[4..text_end], tokens, &after[4..list_end]),
-    }
+    })
 }

@@ -43,10 +43,9 @@ fn replay(rt: &impl Print, file: &[u8]) -> io::Result<()> {
     let mut tokens = 0;
     let mut differences = 0;
     while at < file.len() {
-        let case = read_case(&file[at..]);
-        if case.size == 0 {
+        let Some(case) = read_case(&file[at..]) else {
             return print_damaged(rt, texts);
-        }
+        };
         at += case.size;
         texts += 1;
         tokens += case.tokens;

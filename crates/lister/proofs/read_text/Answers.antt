@@ -8,8 +8,8 @@ use Rattle.lister.proofs.read_text.Goals as goal
 pub loop-n-preserved : goal.loop-n-preserved
 loop-n-preserved g c =
     let l = c.loop-n in
-    let r = c.in-Bytes in
-    let on = read_on l.n r.more l.text c.read_some-some.new.part l.invariant.within r.ensures.bound in
+    let r = c.in_ok-more in
+    let on = read_on l.n r.more l.text c.read_some.new.part l.invariant.within r.ensures.bound in
     record {
       within = search rules;
       bytes = subst (Consumes _ _) on (Consumes-trans _ _ _ _ _ l.invariant.bytes r.ensures.bytes.0);
