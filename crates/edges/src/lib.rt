@@ -53,6 +53,7 @@ fn is_among(b: u8, low: u64, high: u64) -> bool {
 // The edges after `at` in the 64 bytes from there on; none where the text's end is near, or where they would not pay: at a quote, a backslash
 // or a byte past ASCII, or before a byte past ASCII. After a long token (`shy`) others of its kind may come: then also before a quote,
 // a `$` or a byte that may open a comment.
+#[inline(always)]
 pub fn find(text: &[u8], at: usize, shy: bool) -> Rest
     requires { at ≤ length text.now }
     ensures { Left text.now at result }
