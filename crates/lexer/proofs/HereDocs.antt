@@ -5,6 +5,7 @@ use mathlib.Core.Path.{◌≡◌, refl, sym, ap, ◌∙◌, subst}
 use mathlib.Core.List.{List}
 use mathlib.Core.Bool.{Bool, true, false, not}
 use mathlib.Core.Option.{Option, some, none}
+use Rattle.std.proofs.Common.{Option as CodeOption, Some, None}
 use lib.ListN.{length, get_or, drop}
 use lib.Dec.{eqb}
 use borrow.Author.Tests.{eqb-false, not-true}
@@ -23,12 +24,12 @@ use Rattle.lexer.specs.HereDocs.{Delimiter, TagEnd, found_end}
 use Rattle.lexer.proofs.Skips.{over}
 
 -- what the search for d finds from i on
-abbrev pub searched : List ℕ → List ℕ → ℕ → ℕ
+abbrev pub searched : List ℕ → List ℕ → ℕ → CodeOption ℕ
 searched d s i = found_end i (length d) (find d (chars (drop i s)))
 
 next_end : (i n : ℕ) (o : Option ℕ) → found_end i n (later 1 o) ≡ found_end (i + 1) n o
 next_end i n none = refl
-next_end i n (some m) = omega arith
+next_end i n (some m) = ap {B = CodeOption ℕ} Some (omega arith)
 
 -- a byte is passed where d does not begin
 pub search_on : (d : List ℕ) → get_or d 0 0 ≡ dollar → (s : List ℕ) (i : ℕ) → i < length s → begins d (chars (drop i s)) ≡ false → searched d s (i + 1) ≡ searched d s i
@@ -85,26 +86,27 @@ module _ (s : List ℕ) (start e : ℕ) (t : TagEnd s (start + 1) e) where
     opens = (opening-first s start e t.from a t.tags z, opening_plain s start e t.from a t.tags z)
 
     -- r: where the search after the tag found the closing delimiter's end
-    module _ (r : ℕ) (found : r ≡ found_end (e + 1) (length (opening s start e)) (find (opening s start e) (chars (drop (e + 1) s)))) where
+    module _ (r : CodeOption ℕ) (found : r ≡ found_end (e + 1) (length (opening s start e)) (find (opening s start e) (chars (drop (e + 1) s)))) where
       by : (o : Option ℕ) → find (opening s start e) (chars (drop (e + 1) s)) ≡ o → (here_doc (chars (drop (start + 1) s)) ≡ later (2 * (e + 1 - start)) o) × (r ≡ found_end (e + 1) (e + 1 - start) o)
       by o f = (
         here_by s start e t.from a t.tags z o f,
         found ∙ ap (λ (n : ℕ). found_end (e + 1) n (find (opening s start e) (chars (drop (e + 1) s)))) (opening_size s start e t.from a t.tags z) ∙ ap (found_end (e + 1) (e + 1 - start)) f,
       )
 
-      pub not_found : r ≡ 0 → record { kind = DollarSign; end = start + 1 } ≡ answer
+      pub not_found : r ≡ None → record { kind = DollarSign; end = start + 1 } ≡ answer
       not_found y = go (find (opening s start e) (chars (drop (e + 1) s))) refl
         where
           go : (o : Option ℕ) → find (opening s start e) (chars (drop (e + 1) s)) ≡ o → record { kind = DollarSign; end = start + 1 } ≡ answer
           go none f = lone (by none f).0
-          go (some m) f = let h = (by (some m) f).1 in absurd (omega arith)
+          go (some m) f = let h = (by (some m) f).1 in absurd (cc (y, h))
 
-      pub here_found : (r ≡ 0 → ⊥) → record { kind = HereDoc; end = r } ≡ answer
-      here_found y = go (find (opening s start e) (chars (drop (e + 1) s))) refl
+      pub here_found : (end : ℕ) → r ≡ Some end → record { kind = HereDoc; end = end } ≡ answer
+      here_found end y = go (find (opening s start e) (chars (drop (e + 1) s))) refl
         where
-          go : (o : Option ℕ) → find (opening s start e) (chars (drop (e + 1) s)) ≡ o → record { kind = HereDoc; end = r } ≡ answer
-          go none f = absurd (y (by none f).1)
+          go : (o : Option ℕ) → find (opening s start e) (chars (drop (e + 1) s)) ≡ o → record { kind = HereDoc; end = end } ≡ answer
+          go none f = let h = (by none f).1 in absurd (cc (y, h))
           go (some m) f =
               let h = (by (some m) f).1 in
+              let q : end ≡ (e + 1) + m + (e + 1 - start) = cc (y, h) in
               let u = t.from in
               ap (λ (n : ℕ). record { kind = HereDoc; end = n }) (omega arith) ∙ sym (ap (λ (o : Option ℕ). ends_at start (dollar_lexeme o)) (by (some m) f).0)

@@ -1,5 +1,6 @@
 -- What the search for a here-document's end asks and answers.
-use Rattle.std.specs.Prelude.{ℕ, ◌+◌, ◌≤◌, ◌<◌, ◌≡◌, List, true, false, length, get_or}
+use Rattle.std.specs.Prelude.{ℕ, ◌+◌, ◌≤◌, ◌<◌, ◌≡◌, List, true, false, length, get_or, Some, None}
+use Rattle.std.specs.Prelude.{Option as CodeOption}
 use Rattle.std.proofs.Math.Option.{Option, some, none}
 use Rattle.rules.specs.Characters.{dollar}
 use Rattle.rules.specs.Dollars.{tag_byte}
@@ -18,7 +19,7 @@ pub record TagEnd (s : List ℕ) (at e : ℕ) : Type 0 where
   pub tags : (k : ℕ) → k < e → at ≤ k → tag_byte (get_or s k 0) ≡ true
   pub over : tag_byte (get_or s e 0) ≡ false
 
--- Where a delimiter of n bytes ends that was found from an offset on; 0 where none was.
-abbrev pub found_end : ℕ → ℕ → Option ℕ → ℕ
-found_end at n none = 0
-found_end at n (some m) = at + m + n
+-- Where a delimiter of n bytes ends that was found from an offset on.
+abbrev pub found_end : ℕ → ℕ → Option ℕ → CodeOption ℕ
+found_end at n none = None
+found_end at n (some m) = Some (at + m + n)

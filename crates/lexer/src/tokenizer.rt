@@ -474,8 +474,8 @@ fn matches(text: &[u8], at: usize, delimiter: &[u8]) -> bool
     text[at..].starts_with(delimiter)
 }
 
-// Where the first delimiter from `at` on ends, or 0. Bytes among which no `$` stands before the delimiter's second byte are gone over by eights.
-fn find_delimiter(text: &[u8], at: usize, delimiter: &[u8]) -> usize
+// Where the first delimiter from `at` on ends, if there is one. Bytes among which no `$` stands before the delimiter's second byte are gone over by eights.
+fn find_delimiter(text: &[u8], at: usize, delimiter: &[u8]) -> Option<usize>
     requires { Delimiter delimiter.now × (1 < length delimiter.now) }
     ensures { result ≡ found_end at (length delimiter.now) (find delimiter.now (chars (drop at text.now))) }
 {
@@ -487,14 +487,12 @@ fn find_delimiter(text: &[u8], at: usize, delimiter: &[u8]) -> usize
         if i == text.len() {
             break;
         }
-        if text[i] == b'$' {
-            if matches(text, i, delimiter) {
-                return i + delimiter.len();
-            }
+        if text[i] == b'$' && matches(text, i, delimiter) {
+            return Some(i + delimiter.len());
         }
         i += 1;
     }
-    0
+    None
 }
 
 // A here-document, or the `$` at `start` alone.
@@ -509,11 +507,10 @@ fn read_dollar(text: &[u8], start: usize) -> Lexed
     }
     // The closing delimiter is sought after the opening one, which it may not overlap.
     let body = tag + 1;
-    let end = find_delimiter(text, body, &text[start..body]);
-    if end == 0 {
-        return lone;
+    match find_delimiter(text, body, &text[start..body]) {
+        Some(end) => Lexed::new(SyntaxKind::HereDoc, end),
+        None => lone,
     }
-    Lexed::new(SyntaxKind::HereDoc, end)
 }
 
 fn is_word_in(c: u32, dollar: bool) -> bool

@@ -1,5 +1,5 @@
 -- What is gone over has no delimiter's beginning. Assumes nothing.
-use Rattle.std.proofs.Common.{◌≡◌, ℕ, List, ◌+◌, ◌≤◌, ◌<◌, sym, ap, ◌∙◌, [], ◌∷◌, false, not, eqb, length, get_or, drop, arith}
+use Rattle.std.proofs.Common.{◌≡◌, ℕ, List, ◌+◌, ◌≤◌, ◌<◌, sym, ap, ◌∙◌, [], ◌∷◌, false, not, eqb, length, get_or, drop, arith, Option, Some, None}
 use borrow.Author.Tests.{eq-eqb}
 use Rattle.rules.specs.Utf8.{chars}
 use Rattle.rules.specs.Characters.{dollar}
@@ -11,7 +11,7 @@ use Rattle.lexer.specs.HereDocs.{Delimiter, found_end}
 use Rattle.lexer.proofs.Edges.{inside_one}
 use Rattle.lexer.proofs.HereDocs.{searched, search_on, search_over, pairs_over}
 use Rattle.lexer.proofs.tokenizer.find_delimiter.Goals as goal
-use Rattle.lexer.proofs.tokenizer.find_delimiter.Goals.{then-text-i-eq36+else-matches, else-text-i-eq36}
+use Rattle.lexer.proofs.tokenizer.find_delimiter.Goals.{else-text-i-eq36-via-then-text-i-eq36+else-matches, else-text-i-eq36-via-else-text-i-eq36}
 
 -- the search from where the pairs and then the skip end
 skipped :
@@ -28,7 +28,7 @@ skipped d s g l i j k a b ea eb u r =
     clash (both _ _ e f) (u.none n m h))
 
 -- the text's end
-ended : (d s : List ℕ) (at i : ℕ) → length s ≤ i → searched d s i ≡ searched d s at → 0 ≡ searched d s at
+ended : (d s : List ℕ) (at i : ℕ) → length s ≤ i → searched d s i ≡ searched d s at → None ≡ searched d s at
 ended d s at i h e = sym (ap (found_end i (length d)) (find_over d s i h)) ∙ e
 
 pub only-requires-in-loop-i : goal.only-requires-in-loop-i
@@ -45,7 +45,7 @@ returns-then-matches c =
     let s = c.args.text.now in
     let i = c.skip_to-i.result in
     let b = sym c.matches.ensures ∙ c.if-matches.true in
-    sym (ap (found_end i (length d)) (find_at d c.requires.0.0 s i (omega (arith, c.if-i-text.false, c.skip_to-i.ensures.upto)) b) ∙ omega arith)
+    sym (ap (found_end i (length d)) (find_at d c.requires.0.0 s i (omega (arith, c.if-i-text.false, c.skip_to-i.ensures.upto)) b) ∙ ap {B = Option ℕ} Some (omega arith))
     ∙ skipped d s c.requires.0 c.requires.1 c.loop-i.i c.skip_pairs-i.result i _ _ c.only.ensures c.only-in-loop-i.ensures c.skip_pairs-i.ensures c.skip_to-i.ensures
     ∙ c.loop-i.invariant
 
@@ -55,9 +55,9 @@ loop-i-preserved c =
     let s = c.args.text.now in
     let i = c.skip_to-i.result in
     let h : i < length s = omega (arith, c.if-i-text.false, c.skip_to-i.ensures.upto) in
-    let absent : begins d (chars (drop i s)) ≡ false = elim c.if-text-i-eq36.branch [
-      | then-text-i-eq36+else-matches w ↦ sym w.matches.ensures ∙ w.if-matches.false
-      | else-text-i-eq36 w ↦ no_dollar d c.requires.0.0 s i h w.if-text-i-eq36.false
+    let absent : begins d (chars (drop i s)) ≡ false = elim c.else-text-i-eq36.branch [
+      | else-text-i-eq36-via-then-text-i-eq36+else-matches w ↦ sym w.matches.ensures ∙ w.if-matches.false
+      | else-text-i-eq36-via-else-text-i-eq36 w ↦ no_dollar d c.requires.0.0 s i h w.if-text-i-eq36.false
     ] in
     search_on d c.requires.0.0 s i h absent
     ∙ skipped d s c.requires.0 c.requires.1 c.loop-i.i c.skip_pairs-i.result i _ _ c.only.ensures c.only-in-loop-i.ensures c.skip_pairs-i.ensures c.skip_to-i.ensures

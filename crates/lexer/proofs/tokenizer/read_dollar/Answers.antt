@@ -7,12 +7,12 @@ pub returns-then-byte_at-ne36 : goal.returns-then-byte_at-ne36
 returns-then-byte_at-ne36 c =
     c.new-lone.ensures ∙ no_tag c.args.text.now c.args.start c.tag_end-tag.result c.tag_end-tag.ensures (λ e. c.if-byte_at-ne36.true (c.byte_at.ensures ∙ e))
 
-pub returns-then-end-eq0 : goal.returns-then-end-eq0
-returns-then-end-eq0 c =
+pub returns-in-None : goal.returns-in-None
+returns-in-None c =
     c.new-lone.ensures
-    ∙ not_found c.args.text.now c.args.start c.tag_end-tag.result c.tag_end-tag.ensures c.requires.1 (sym c.byte_at.ensures ∙ c.if-byte_at-ne36.false) c.find_delimiter-end.result c.find_delimiter-end.ensures c.if-end-eq0.true
+    ∙ not_found c.args.text.now c.args.start c.tag_end-tag.result c.tag_end-tag.ensures c.requires.1 (sym c.byte_at.ensures ∙ c.if-byte_at-ne36.false) c.find_delimiter.result c.find_delimiter.ensures c.in-None.is
 
-pub returns : goal.returns
-returns c =
+pub returns-in-Some : goal.returns-in-Some
+returns-in-Some c =
     c.new.ensures
-    ∙ here_found c.args.text.now c.args.start c.tag_end-tag.result c.tag_end-tag.ensures c.requires.1 (sym c.byte_at.ensures ∙ c.if-byte_at-ne36.false) c.find_delimiter-end.result c.find_delimiter-end.ensures c.if-end-eq0.false
+    ∙ here_found c.args.text.now c.args.start c.tag_end-tag.result c.tag_end-tag.ensures c.requires.1 (sym c.byte_at.ensures ∙ c.if-byte_at-ne36.false) c.find_delimiter.result c.find_delimiter.ensures _ c.in-Some.is
