@@ -18,11 +18,10 @@ returns-clause-going c = λ s position from g.
 pub returns-clause-token : goal.returns-clause-token
 returns-clause-token c = λ s position from g.
     let t = c.told_or_read-next.ensures.taken.0 in
-    let l = next_lies _ _ c.told_or_read-next.result.token (omega (arith, c.if-start-self.false, c.args.self.now.upto)) t in
-    (
+    let l = next_lies _ _ c.told_or_read-next.result.token (omega (arith, c.if-start-self.false, c.args.self.now.upto)) t in (
       omega (arith, c.if-start-self.false, g.upto),
       subst
-      (λ s. Comes s c.args.self.now.cursor (record { kind = c.told_or_read-next.result.token.kind; start = c.args.self.now.cursor; end = c.told_or_read-next.result.token.end }) c.told_or_read-next.result.token.end)
-      g.text
-      (record { start = refl; upto = refl; lexed = t; moves = l.0; inside = l.1 }),
+          (λ s. Comes s c.args.self.now.cursor (record { kind = c.told_or_read-next.result.token.kind; start = c.args.self.now.cursor; end = c.told_or_read-next.result.token.end }) c.told_or_read-next.result.token.end)
+          g.text
+          (record { start = refl; upto = refl; lexed = t; moves = l.0; inside = l.1 }),
     )
