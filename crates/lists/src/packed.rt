@@ -13,10 +13,7 @@ pub fn put_u32(list: &mut [u8], at: usize, x: u32) -> usize
     requires { at + 4 ≤ length list.old }
     ensures { (result ≡ at + 4) × (list.new ≡ sets list.old at (bytes_of32 x)) }
 {
-    list[at] = (x % 256) as u8;
-    list[at + 1] = (x / 256 % 256) as u8;
-    list[at + 2] = (x / 65536 % 256) as u8;
-    list[at + 3] = (x / 16777216 % 256) as u8;
+    list[at..at + 4].copy_from_slice(&x.to_le_bytes());
     at + 4
 }
 
@@ -29,20 +26,11 @@ pub fn put_token(list: &mut [u8], at: usize, kind: u32, start: u32, end: u32) ->
     put_u32(list, at, end)
 }
 
-pub fn wide(b: u8) -> u32
-    ensures { (result ≡ b) × (result < 256) }
-{
-    b as u32
-}
-
 pub fn get_u32(list: &[u8], at: usize) -> u32
     requires { at + 4 ≤ length list.now }
     ensures { result ≡ number_at list.now at }
 {
-    wide(list[at])
-        + wide(list[at + 1]) * 256
-        + wide(list[at + 2]) * 65536
-        + wide(list[at + 3]) * 16777216
+    u32::from_le_bytes([list[at], list[at + 1], list[at + 2], list[at + 3]])
 }
 
 pub fn get_token(list: &[u8], at: usize) -> Token

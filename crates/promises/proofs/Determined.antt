@@ -292,9 +292,6 @@ stored_by κs a r s u v p q = (same p q, refl)
 pub put_u32 : Determined packed_says.put_u32.ended packed.put_u32.Reads.Learnt
 put_u32 κs a r s u v p q = lent (λ l. (l, u.1)) (both p q)
 
-pub wide : Determined packed_says.wide.ended packed.wide.Reads.Learnt
-wide κs a r s u v p q = (same p.0 q.0, refl)
-
 pub get_u32 : Determined packed_says.get_u32.ended packed.get_u32.Reads.Learnt
 get_u32 κs a r s u v p q = (same p q, refl)
 

@@ -43,14 +43,12 @@ pub fn list_fits(list: &[u8], tokens: usize, size: u32, flag: u32) -> bool
 {
     let mut fits = true;
     let mut at = 0;
-    let mut left = tokens;
     let mut end = 0;
-    while left > 0 {
+    for _ in 0..tokens {
         let token = get_token(list, at);
         fits = fits & goes_on(size, end, token);
         end = token.end;
         at += token_bytes();
-        left -= 1;
     }
     is_accepted(fits, size, end, flag)
 }
@@ -62,14 +60,12 @@ pub fn records_fit(file: &[u8], from: usize, records: usize, size: u32, flag: u3
 {
     let mut fits = true;
     let mut at = from;
-    let mut left = records;
     let mut end = 0;
-    while left > 0 {
+    for _ in 0..records {
         let token = get_record(file, at, end);
         fits = fits & goes_on(size, end, token);
         end = token.end;
         at += RECORD_BYTES;
-        left -= 1;
     }
     is_accepted(fits, size, end, flag)
 }

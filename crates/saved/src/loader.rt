@@ -12,7 +12,7 @@ use crate::layout::{
     COUNT_AT, FIRST_ZERO_AT, FLAG_AT, RECORD_BYTES, SECOND_ZERO_AT, TRAILER_BYTES, VERSION,
     VERSION_AT, get_record,
 };
-use lists::packed::{get_u32, put_token, wide};
+use lists::packed::{get_u32, put_token};
 use rules::refusal::Refusal;
 use rules::{max_query_size, token_bytes};
 use utf8::valid_length;
@@ -41,7 +41,7 @@ fn is_readable(file: &[u8]) -> bool
     if file[at + SECOND_ZERO_AT] != 0 {
         return false;
     }
-    records_fit(file, from, records, offset, wide(file[at + FLAG_AT]))
+    records_fit(file, from, records, offset, u32::from(file[at + FLAG_AT]))
 }
 
 // The text of a file.
@@ -77,14 +77,12 @@ fn put_tokens(file: &[u8], from: usize, records: usize, list: &mut [u8])
 {
     let mut to = 0;
     let mut at = from;
-    let mut left = records;
     let mut end = 0;
-    while left > 0 {
+    for _ in 0..records {
         let token = get_record(file, at, end);
         to = put_token(list, to, token.kind, token.start, token.end);
         end = token.end;
         at += RECORD_BYTES;
-        left -= 1;
     }
 }
 
@@ -100,6 +98,6 @@ pub fn load(file: &[u8], list: &mut [u8]) -> Result<Loaded, Refusal>
     put_tokens(file, text.len(), records, list);
     Ok(Loaded {
         tokens: records,
-        flag: wide(file[at + FLAG_AT]),
+        flag: u32::from(file[at + FLAG_AT]),
     })
 }

@@ -32,12 +32,10 @@ fn put_records(list: &[u8], tokens: usize, file: &mut [u8], from: usize) -> usiz
 {
     let mut to = from;
     let mut at = 0;
-    let mut left = tokens;
-    while left > 0 {
+    for _ in 0..tokens {
         let token = get_token(list, at);
         to = put_record(file, to, token.kind, token.end);
         at += token_bytes();
-        left -= 1;
     }
     to
 }

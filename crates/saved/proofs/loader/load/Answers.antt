@@ -37,4 +37,4 @@ returns c =
     let n = c.get_u32-records.ensures in
     let enough : count_in c.args.file.now ≤ room c.args.list.now = subst (λ (k : ℕ). count_in c.args.file.now ≤ length c.args.list.now / k) c.token_bytes.ensures (omega (arith, n)) in
     let bytes = c.put_tokens.ensures ∙ (λ i. filled (pack (tokens_in end_bytes (n i) 0 (drop (o.1 i) c.args.file.now))) c.args.list.now) in
-    (λ i. record { number = Done; value = n i; flag = c.wide.ensures.0 i; buffer = bytes i }) ∙ sym (load_done c.args.file.now c.args.list.now o.0 enough)
+    (λ i. record { number = Done; value = n i; flag = c.from.ensures i; buffer = bytes i }) ∙ sym (load_done c.args.file.now c.args.list.now o.0 enough)
