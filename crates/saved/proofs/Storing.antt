@@ -43,10 +43,6 @@ pub tokens_put : (file : List ℕ) (at start : ℕ) (list : List ℕ) (to : ℕ)
 unfolding pack
 tokens_put file at start list to = ap (λ (ts : List Token). sets list to (pack ts)) (sym (records_none end_bytes start (drop at file)))
 
--- as many bytes as before, where a front is copied
-pub length_front : (text file : List ℕ) → length text ≤ length file → length (text ++ drop (length text) file) ≡ length file
-length_front text file h = let l = length-append text (drop (length text) file) in let d = length-drop (length text) file in omega arith
-
 -- a front, and bytes stored after it
 pub file_filled : (text xs file : List ℕ) → length text + length xs ≤ length file → sets (text ++ drop (length text) file) (length text) xs ≡ filled (text ++ xs) file
 file_filled text xs file h =

@@ -1,4 +1,5 @@
-use Rattle.std.proofs.Common.{rules, arith, ◌≡◌, ◌+◌, ◌*◌, ◌/◌, ◌++◌, ℕ, List, length, sym, ap, ◌∙◌}
+use mathlib.Core.Path.{refl}
+use Rattle.std.proofs.Common.{arith, ◌≡◌, ◌/◌, ◌++◌, ℕ, List, length, sym, ap, ◌∙◌}
 use lib.ListN.{length-append}
 use lib.Seq.{sets}
 use Rattle.rules.specs.Listing.{room, unpack}
