@@ -25,6 +25,7 @@ impl Class {
     pub const SPACES: Class = Class {
         edges: [b'\t', 14, b' ', b'!', 0, 0, 0, 0],
     };
+
     // Digits and white space.
     pub const FIGURES: Class = Class {
         edges: [b'\t', 14, b' ', b'!', b'0', b':', 0, 0],
