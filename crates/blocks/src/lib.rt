@@ -21,6 +21,7 @@ fn turned(t: u64) -> u64
 }
 
 // Of the 64 bytes from `at` on, those that are not in the class.
+#[inline(always)]
 fn bits(text: &[u8], at: usize, class: Class) -> u64
     requires { at + 64 ≤ length text.now }
     ensures { result ≡ set 64 (outside class.edges text.now) at }

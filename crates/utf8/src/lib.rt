@@ -67,6 +67,7 @@ fn is_four(a: u8, b: u8, c: u8, d: u8) -> bool
 }
 
 // The length of the character at j, if one begins there. A form of four bytes has one test that all are there, which is faster.
+#[inline(always)]
 fn formed_at(s: &[u8], j: usize) -> Option<usize>
     requires { j < length s.now }
     ensures { result ≡ some_length (well_formed (drop j s.now)) }
