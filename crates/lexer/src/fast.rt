@@ -16,6 +16,7 @@ use crate::syntax_kind::SyntaxKind;
 use crate::token::Lexed;
 
 // What each byte tells of the kind of a token that it starts: the kind; past 0x80, the kind of the byte alone, where there may be more to it.
+// One byte holds both, so that one load tells, and one test parts the first from the second.
 static FIRST_BYTE_KINDS: [u8; 256] = [
     0x2F, 0x2F, 0x2F, 0x2F, 0x2F, 0x2F, 0x2F, 0x2F, 0x2F, 0x01, 0x01, 0x01, 0x01, 0x01, 0x2F, 0x2F,
     0x2F, 0x2F, 0x2F, 0x2F, 0x2F, 0x2F, 0x2F, 0x2F, 0x2F, 0x2F, 0x2F, 0x2F, 0x2F, 0x2F, 0x2F, 0x2F,
@@ -84,16 +85,11 @@ pub(crate) fn fast_operator(text: &[u8], start: usize, kind: u32) -> Option<Lexe
     if is_spaceship(a, b, text[start + 2]) | (a == b'-') & (b == b'-') | (a == b'/') & (b == b'*') {
         return None;
     }
-    if let Some(kind) = pair(a, b) {
-        return Some(Lexed {
-            kind,
-            end: start + 2,
-        });
-    }
-    Some(Lexed {
-        kind,
-        end: start + 1,
-    })
+    let l = match pair(a, b) {
+        Some(kind) => Lexed::new(kind, start + 2),
+        None => Lexed::new(kind, start + 1),
+    };
+    Some(l)
 }
 
 // A number of one or two runs of digits that ends at a byte of ASCII at which none goes on.
@@ -122,8 +118,5 @@ pub(crate) fn fast_number(text: &[u8], start: usize) -> Option<Lexed>
 pub(crate) fn number_if_ended(b: u8, end: usize) -> Option<Lexed>
     ensures { IfSome result (λ l. (l ≡ record { kind = Number; end = «end» }) × (b < 0x80) × (word_character b ≡ false)) }
 {
-    ((b < 0x80) & !is_word_byte(b, false)).then_some(Lexed {
-        kind: SyntaxKind::Number,
-        end,
-    })
+    ((b < 0x80) & !is_word_byte(b, false)).then_some(Lexed::new(SyntaxKind::Number, end))
 }

@@ -256,7 +256,8 @@ fn read_multi_line_comment(text: &[u8], at: usize) -> Lexed
     Lexed::new(SyntaxKind::ErrorMultilineCommentIsNotClosed, j)
 }
 
-// How a number opens: whether its digits are hex, and how many bytes stand before the first run.
+// How a number opens: whether its digits are hex, and how many bytes stand before the first run. Neither tells the other: `0b` has two, and
+// decimal digits.
 #[derive(Clone, Copy)]
 pub struct Opened {
     pub hex: bool,

@@ -9,11 +9,11 @@ returns-in-Some c =
     let s = c.args.text.now in
     let i = c.args.start in
     let t = none_of _ _ _ c.if-is_spaceship-a.false in
-    told-pair (after_dot_at s i) s i (omega arith) c.requires.1 (sym c.is_spaceship.ensures ∙ t.0) t.1 t.2 _ c.in-Some.ensures.0 c.in-Some.ensures.1
+    c.new-l.ensures ∙ told-pair (after_dot_at s i) s i (omega arith) c.requires.1 (sym c.is_spaceship.ensures ∙ t.0) t.1 t.2 _ c.in-Some.ensures.0 c.in-Some.ensures.1
 
-pub returns : goal.returns
-returns c =
+pub returns-in-None : goal.returns-in-None
+returns-in-None c =
     let s = c.args.text.now in
     let i = c.args.start in
     let t = none_of _ _ _ c.if-is_spaceship-a.false in
-    told-single (after_dot_at s i) s i (omega arith) c.requires.1 (sym c.is_spaceship.ensures ∙ t.0) t.1 t.2 _ (sym c.in_default.ensures) refl _ c.requires.2
+    c.new-l-in-None.ensures ∙ told-single (after_dot_at s i) s i (omega arith) c.requires.1 (sym c.is_spaceship.ensures ∙ t.0) t.1 t.2 _ (sym c.in-None.ensures) refl _ c.requires.2
