@@ -1,19 +1,18 @@
 -- Words of bits, and the offsets that they mark. Assumes nothing.
-use Rattle.std.proofs.Common.{◌≡◌, ℕ, zero, suc, ◌+◌, ◌-◌, ◌*◌, ◌/◌, ◌%◌, ◌^◌, ◌<◌, ◌≤◌, Bool, true, false, cond, eqb, ltb, leb, List, length, get_or, set, replicate, sym, refl, ap, ◌∙◌, subst, arith, get_or-set_other, get_or-set_same, ltb-false, ltb-true, leb-false}
+use Rattle.std.proofs.Common.{◌≡◌, ℕ, zero, suc, ◌+◌, ◌-◌, ◌*◌, ◌/◌, ◌%◌, ◌^◌, ◌<◌, ◌≤◌, Bool, true, false, cond, eqb, ltb, leb, List, length, get_or, replicate, sym, refl, ap, ◌∙◌, subst, arith, ltb-true}
 use native.Mathlib.Nat.{pow-succ', pow-le-pow_right, div-div-eq-div-mul, zero-div}
-use native.Mathlib.Decide.{dec_lt}
 use Rattle.rules.proofs.Tests.{clash, eqb-true}
-use Rattle.ahead.specs.Marks.{Lone, bit, LoneWord, LoneWords, LoneUntil, Marked}
+use Rattle.ahead.specs.Marks.{Lone, bit, Marked}
 
 -- no bit of 0 is set
-pub bit_none : (k : ℕ) → bit 0 k ≡ false
+bit_none : (k : ℕ) → bit 0 k ≡ false
 bit_none k = ap (λ (n : ℕ). eqb (n % 2) 1) (zero-div (2 ^ k))
 
 module _ (w f : ℕ) (h : f ≤ 1) where
-  pub bit-first : bit (w * 2 + f) 0 ≡ eqb f 1
+  bit-first : bit (w * 2 + f) 0 ≡ eqb f 1
   bit-first = let e : (w * 2 + f) / 1 % 2 ≡ f = omega arith in ap (λ (n : ℕ). eqb n 1) e
 
-  pub bit_next : (k : ℕ) → bit (w * 2 + f) (suc k) ≡ bit w k
+  bit_next : (k : ℕ) → bit (w * 2 + f) (suc k) ≡ bit w k
   bit_next k =
       let e : (w * 2 + f) / 2 ≡ w = omega arith in
       ap (λ (n : ℕ). eqb (n % 2) 1) (ap (λ (n : ℕ). (w * 2 + f) / n) (pow-succ' 2 k) ∙ sym (div-div-eq-div-mul (w * 2 + f) 2 (2 ^ k)) ∙ ap (λ (n : ℕ). n / 2 ^ k) e)
@@ -31,40 +30,6 @@ size_more w f k h l m e =
     let p : 2 ^ (64 - (k - 1)) ≡ 2 * 2 ^ (64 - k) = ap (λ (x : ℕ). 2 ^ x) n ∙ pow-succ' 2 (64 - k) in
     let q : 2 ^ (64 - k) ≤ 2 ^ 63 = pow-le-pow_right {n = 2} (omega arith) {i = 64 - k} {j = 63} (omega arith) in
     (omega arith, omega arith)
-
-module _ (s : List ℕ) (at : ℕ) (words : List ℕ) (m w : ℕ) (h : m < length words) (l : LoneWords s at words m) (n : LoneWord s (at + m * 64) w) where
-  pub words_more : LoneWords s at (set words m w) (m + 1)
-  words_more k i = go (dec_lt k m)
-    where
-      go : Dec (k < m) → LoneWord s (at + k * 64) (get_or (set words m w) k 0)
-      go (yes j) = subst (LoneWord s (at + k * 64)) (sym (get_or-set_other words m k w 0 (λ e. omega arith))) (l k j)
-      go (no j) =
-          let e : k ≡ m = omega arith in
-          subst (λ (x : ℕ). LoneWord s (at + x * 64) (get_or (set words m w) x 0)) (sym e) (subst (LoneWord s (at + m * 64)) (sym (get_or-set_same words m w 0 h)) n)
-
--- one offset more
-pub lone_more : (s : List ℕ) (from until : ℕ) → LoneUntil s from until → Lone s until → LoneUntil s from (until + 1)
-lone_more s from until u n at h l = go (dec_lt at until)
-  where
-    go : Dec (at < until) → Lone s at
-    go (yes k) = u at h k
-    go (no k) = let e : until ≡ at = omega arith in subst (Lone s) e n
-
--- what both say together
-pub all_marked : (s : List ℕ) (from until : ℕ) (words : List ℕ) → LoneUntil s from until → LoneWords s until words (length words) → Marked s from until words
-all_marked s from until words u w at h e = go (ltb at until) (leb (length words) ((at - until) / 64)) refl refl e
-  where
-    word : ℕ
-    word = get_or words ((at - until) / 64) 0
-
-    go : (x y : Bool) → ltb at until ≡ x → leb (length words) ((at - until) / 64) ≡ y → cond x true (cond y false (bit word ((at - until) % 64))) ≡ true → Lone s at
-    go true y p q e = u at h (ltb-true at until p)
-    go false true p q e = clash e refl
-    go false false p q e =
-        let l = ltb-false at until p in
-        let m = leb-false (length words) ((at - until) / 64) q in
-        let z : until + (at - until) / 64 * 64 + (at - until) % 64 ≡ at = omega arith in
-        subst (Lone s) z (w ((at - until) / 64) (omega arith) ((at - until) % 64) e)
 
 -- nothing is marked at first
 none_marked : (s : List ℕ) (from : ℕ) (words : List ℕ) → ((m : ℕ) → get_or words m 0 ≡ 0) → Marked s from 0 words

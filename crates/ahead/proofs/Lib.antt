@@ -1,4 +1,4 @@
--- The table's slots and what is noted for them; a tag that is not seen again; words of bits.
+-- The table's slots; a tag that is not seen again; words of bits.
 pub mod Slots
 pub mod Again
 pub mod Bits

@@ -1,12 +1,10 @@
 -- The hash of a tag, byte by byte, its slot, and what is noted for the slots. Assumes nothing.
-use Rattle.std.proofs.Common.{◌≡◌, ℕ, zero, suc, ◌+◌, ◌-◌, ◌*◌, ◌/◌, ◌%◌, ◌<◌, ◌≤◌, Bool, true, false, eqb, List, ◌∷◌, length, get_or, drop, set, sym, refl, ap, ◌∙◌, add-zero, mul-le-mul, add-one, arith, length-set, drop_of_length-le, drop-cons, get_or-set_other, get_or-set_same, eq-eqb, ne_eqb}
-use native.Mathlib.Decide.{dec_lt}
-use borrow.Author.Tests.{eqb-false}
+use Rattle.std.proofs.Common.{◌≡◌, ℕ, zero, suc, ◌+◌, ◌-◌, ◌*◌, ◌/◌, ◌%◌, ◌<◌, ◌≤◌, true, false, List, ◌∷◌, length, get_or, drop, sym, refl, ap, ◌∙◌, add-zero, mul-le-mul, add-one, arith, drop_of_length-le, drop-cons, eq-eqb, ne_eqb}
 use Rattle.rules.specs.Characters.{dollar}
 use Rattle.rules.specs.Dollars.{tag_byte}
-use Rattle.rules.proofs.Tests.{clash, eqb-true}
+use Rattle.rules.proofs.Tests.{clash}
 use Rattle.rules.proofs.Decoding.{within_text}
-use Rattle.ahead.specs.Slots.{key_at, mixed, hash_from, start_of, may_hold, probed, slot_of, no_slot, slot_from, slot_at, Seen}
+use Rattle.ahead.specs.Slots.{key_at, mixed, hash_from, start_of, may_hold, probed, slot_of, no_slot, slot_from}
 
 -- A byte more fits.
 pub mixed_fits : (k h b : ℕ) → k < 0x100000000 → h < 0x10000000000000000 → b < 256 → (h % 0x100000000 * k + h / 0x100000000 + b < 0x10000000000000000) × (h % 0x100000000 * k + h / 0x100000000 < 0x10000000000000000) × (h % 0x100000000 * k < 0x10000000000000000)
@@ -41,7 +39,7 @@ tag_inside s i t = go (get_or s i 0) refl
     go (suc c) z = within_text s i (omega arith)
 
 -- Two places with the same tag have the same hash, and so the same slot.
-pub hash_same : (s : List ℕ) (n a b h p q : ℕ) → ((k : ℕ) → k < n → tag_byte (get_or s (p + k) 0) ≡ true) → ((k : ℕ) → k ≤ n → get_or s (q + k) 0 ≡ get_or s (p + k) 0) → get_or s (p + n) 0 ≡ dollar
+hash_same : (s : List ℕ) (n a b h p q : ℕ) → ((k : ℕ) → k < n → tag_byte (get_or s (p + k) 0) ≡ true) → ((k : ℕ) → k ≤ n → get_or s (q + k) 0 ≡ get_or s (p + k) 0) → get_or s (p + n) 0 ≡ dollar
     → hash_from a b h (drop q s) ≡ hash_from a b h (drop p s)
 hash_same s zero a b h p q t e d =
     let x : get_or s p 0 ≡ dollar = rw (add-zero p) at d in
@@ -93,49 +91,3 @@ probed_next table f i (suc n) l e z = let x : n ≡ suc n - 1 = omega arith in r
 pub probed_over : (table : List ℕ) (f i : ℕ) → probed table f i 0 ≡ no_slot
 unfolding probed
 probed_over table f i = refl
-
-module _ (s : List ℕ) (from : ℕ) (table last : List ℕ) (j : ℕ) where
-  pub seen_none : j ≤ from → Seen s from table last j
-  seen_none h = record { seen = λ q l m d n. absurd (omega arith) }
-
-  pub seen_skip : Seen s from table last j → (get_or s j 0 ≡ dollar → ⊥) → Seen s from table last (j + 1)
-  seen_skip v n = record { seen = λ q l m d k. go q l m d k (eqb q j) refl }
-    where
-      go : (q : ℕ) → from ≤ q → q < j + 1 → get_or s q 0 ≡ dollar → slot_at s table q < length last → (t : Bool) → eqb q j ≡ t → q ≤ get_or last (slot_at s table q) 0
-      go q l m d k true e = let z : q ≡ j = eqb-true e in absurd (n (rw z at d))
-      go q l m d k false e = let z = eqb-false q j e in v.seen q l (omega (arith, z)) d k
-
-  -- what is noted for another slot stays
-  pub seen_beyond : Seen s from table last j → length last ≤ slot_at s table j → Seen s from table last (j + 1)
-  seen_beyond v n = record { seen = λ q l m d k. go q l m d k (eqb q j) refl }
-    where
-      go : (q : ℕ) → from ≤ q → q < j + 1 → get_or s q 0 ≡ dollar → slot_at s table q < length last → (t : Bool) → eqb q j ≡ t → q ≤ get_or last (slot_at s table q) 0
-      go q l m d k true e = let z : q ≡ j = eqb-true e in let w : slot_at s table q ≡ slot_at s table j = ap (slot_at s table) z in absurd (omega arith)
-      go q l m d k false e = let z = eqb-false q j e in v.seen q l (omega (arith, z)) d k
-
-  pub seen_note : Seen s from table last j → Seen s from table (set last (slot_at s table j) j) (j + 1)
-  seen_note v = record { seen = λ q l m d k. go q l m d (rw (length-set last (slot_at s table j) j) at k) (eqb (slot_at s table q) (slot_at s table j)) refl }
-    where
-      go : (q : ℕ) → from ≤ q → q < j + 1 → get_or s q 0 ≡ dollar → slot_at s table q < length last → (t : Bool) → eqb (slot_at s table q) (slot_at s table j) ≡ t
-          → q ≤ get_or (set last (slot_at s table j) j) (slot_at s table q) 0
-      go q l m d k true e =
-          let z : slot_at s table q ≡ slot_at s table j = eqb-true e in
-          let g : get_or (set last (slot_at s table j) j) (slot_at s table q) 0 ≡ j =
-          ap (λ (a : ℕ). get_or (set last (slot_at s table j) j) a 0) z ∙ get_or-set_same last (slot_at s table j) j 0 (rw z at k) in
-          omega (arith, g)
-      go q l m d k false e =
-          let z = eqb-false _ _ e in
-          let g : get_or (set last (slot_at s table j) j) (slot_at s table q) 0 ≡ get_or last (slot_at s table q) 0 = get_or-set_other last (slot_at s table j) (slot_at s table q) j 0 z in
-          let o : q ≡ j → ⊥ = λ x. z (ap (slot_at s table) x) in
-          rw g (v.seen q l (omega (arith, o)) d k)
-
-  -- no byte of a tag is a `$`
-  pub seen_tags : (e : ℕ) → Seen s from table last j → ((k : ℕ) → k < e → j ≤ k → tag_byte (get_or s k 0) ≡ true) → Seen s from table last e
-  seen_tags e v t = record { seen = λ q l m d n. go q l m d n (dec_lt q j) }
-    where
-      go : (q : ℕ) → from ≤ q → q < e → get_or s q 0 ≡ dollar → slot_at s table q < length last → Dec (q < j) → q ≤ get_or last (slot_at s table q) 0
-      go q l m d n (yes h) = v.seen q l h d n
-      go q l m d n (no h) = clash (t q m (omega arith)) (ap tag_byte d)
-
-  pub seen_all : Seen s from table last j → length s ≤ j → Seen s from table last (length s)
-  seen_all v h = record { seen = λ q l m d k. v.seen q l (omega arith) d k }

@@ -1,7 +1,8 @@
 -- A table of hashes of tags, and where a tag of each slot is last seen in a text. Only what is read of the table is defined: it may hold anything.
-use Rattle.std.specs.Prelude.{◌≡◌, ℕ, zero, suc, ◌+◌, ◌*◌, ◌/◌, ◌%◌, ◌^◌, ◌<◌, ◌≤◌, Bool, true, false, List, [], ◌∷◌, length, drop, ◌==◌, slice_index}
+use Rattle.std.specs.Prelude.{◌≡◌, ℕ, zero, suc, ◌+◌, ◌*◌, ◌/◌, ◌%◌, ◌^◌, ◌<◌, ◌≤◌, Bool, true, false, List, [], ◌∷◌, length, drop, ◌==◌, slice_index, Option, MatchOption}
 use Rattle.rules.specs.Characters.{dollar}
 use Rattle.rules.specs.Dollars.{tag_byte}
+use Rattle.ahead.specs.declared.Tags.{Tags}
 
 -- A hash is looked for first at one of these, and then at up to 63 that follow.
 abbrev pub slots : ℕ
@@ -46,6 +47,10 @@ probed table f i (suc n) =
 abbrev pub may_hold : List ℕ → ℕ → Bool
 may_hold table h = slice_index table (word_of h) / 2 ^ (h / 0x1000 % 32) % 2 == 1
 
+-- A place, or none where the number is no slot.
+abbrev pub IsPlace : Option ℕ → ℕ → Type 0
+IsPlace o n = MatchOption o (n ≡ no_slot) (λ i. (i ≡ n) × (i < filter_at))
+
 -- The slot of a hash.
 unfoldable pub slot_of : List ℕ → ℕ → ℕ
 slot_of table h = elim (may_hold table h) [ true ↦ probed table (h / 0x100000000) (start_of h) 64 | false ↦ no_slot ]
@@ -61,3 +66,7 @@ slot_at s table at = slot_from table (drop (at + 1) s)
 -- No `$` from an offset on, before another, stands beyond what is noted for its slot.
 pub record Seen (s : List ℕ) (from : ℕ) (table last : List ℕ) (to : ℕ) : Type 0 where
   pub seen : (at : ℕ) → from ≤ at → at < to → slice_index s at ≡ dollar → slot_at s table at < length last → at ≤ slice_index last (slot_at s table at)
+
+-- A table of its size, and what is noted for all of a text.
+abbrev pub Holds : Tags → Type 0
+Holds t = (length t.table.now ≡ table_size) × (length t.last.now ≡ filter_at) × Seen t.text.now t.from t.table.now t.last.now (length t.text.now)

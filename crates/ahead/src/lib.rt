@@ -11,16 +11,25 @@ ghost use Rattle.rules.specs.Dollars.{tag_byte};
 ghost use Rattle.rules.specs.Limits.{max_query_size};
 ghost use Rattle.rules.specs.Characters.{dollar};
 ghost use Rattle.lexer.specs.HereDocs.{TagEnd};
-ghost use Rattle.ahead.specs.Slots.{slots, key_at, table_size, mixed, hash_from, start_of, word_of, may_hold, probed, slot_of, slot_from, Seen};
+ghost use Rattle.ahead.specs.Slots.{slots, filter_at, key_at, table_size, mixed, hash_from, start_of, word_of, may_hold, probed, slot_of, slot_from, IsPlace, Seen, Holds};
 ghost use Rattle.ahead.specs.Marks.{Lone, LoneWord, LoneWords, LoneUntil, marked, Marked, Lexes, wasted_by};
 
 use lexer::bytes::is_tag_byte;
 use lexer::syntax_kind::SyntaxKind;
 use lexer::token::Lexed;
 use lexer::tokenizer::next_token;
-use runs::eight;
-use std::num::wrapping_add_u64;
+use std::hash::{DefaultHasher, Hasher};
 use utf8::byte_at;
+
+// The table holds hashes of tags: one is looked for first at one of `SLOTS` places, and then at up to 63 that follow. Behind them stand words of bits,
+// which say that a hash may be there, and behind these two keys.
+const SLOTS: usize = 81_920;
+
+const PLACES: usize = 81_984;
+
+const KEYS: usize = 114_752;
+
+const TABLE: usize = 114_754;
 
 // One byte more of a hash. Of the old one the lower half is multiplied and the upper half added, so nothing wraps and nothing is lost.
 fn mix(k: u32, h: u64, b: u8) -> u64
@@ -43,8 +52,7 @@ fn hash_at(text: &[u8], at: usize, first: u32, second: u32) -> Hashed
     let mut a = first;
     let mut b = second;
     let mut h = first as u64;
-    let mut j = at;
-    while j < text.len() {
+    for j in at..text.len() {
         let c = text[j];
         if !is_tag_byte(c) {
             return Hashed {
@@ -56,11 +64,10 @@ fn hash_at(text: &[u8], at: usize, first: u32, second: u32) -> Hashed
         let next = b;
         b = a;
         a = next;
-        j += 1;
     }
     Hashed {
         hash: mix(b, mix(a, h, 0), 0),
-        end: j,
+        end: text.len(),
     }
 }
 
@@ -68,106 +75,98 @@ fn hash_at(text: &[u8], at: usize, first: u32, second: u32) -> Hashed
 fn start_of(h: u64) -> usize
     ensures { (result ≡ start_of h) × (result < slots) }
 {
-    (h % 0x1_0000_0000 * 81920 / 0x1_0000_0000) as usize
+    (h % 0x1_0000_0000 * SLOTS as u64 / 0x1_0000_0000) as usize
 }
 
 fn word_of(h: u64) -> usize
     ensures { (result ≡ word_of h) × (result < key_at) }
 {
-    81984 + (h % 0x1_0000_0000 / 0x2_0000) as usize
+    PLACES + (h % 0x1_0000_0000 / 0x2_0000) as usize
 }
 
 fn may_hold(table: &[u32], h: u64) -> bool
     requires { length table.now ≡ table_size }
     ensures { result ≡ may_hold table.now h }
 {
-    let w = word_of(h);
-    (table[w] >> (h / 0x1000 % 32)) % 2 == 1
+    (table[word_of(h)] >> (h / 0x1000 % 32)) % 2 == 1
 }
 
 // Which of 64 places holds a number. An empty one ends the search.
-fn probe(table: &[u32], f: u32, at: usize) -> usize
+fn probe(table: &[u32], f: u32, at: usize) -> Option<usize>
     requires { (length table.now ≡ table_size) × (at < slots) }
-    ensures { result ≡ probed table.now f at 64 }
+    ensures { IsPlace result (probed table.now f at 64) }
 {
-    let mut i = at;
-    let mut n: usize = 64;
-    while 0 < n {
+    for i in at..at + 64 {
         let x = table[i];
         if x == f {
-            return i;
+            return Some(i);
         }
         if x == 0 {
-            return 114754;
+            return None;
         }
-        i += 1;
-        n -= 1;
     }
-    114754
+    None
 }
 
 // The slot of a hash: where its upper half stands.
-fn slot_of(table: &[u32], h: u64) -> usize
+fn slot_of(table: &[u32], h: u64) -> Option<usize>
     requires { length table.now ≡ table_size }
-    ensures { result ≡ slot_of table.now h }
+    ensures { IsPlace result (slot_of table.now h) }
 {
-    if may_hold(table, h) {
-        return probe(table, (h / 0x1_0000_0000) as u32, start_of(h));
+    if !may_hold(table, h) {
+        return None;
     }
-    114754
+    probe(table, (h / 0x1_0000_0000) as u32, start_of(h))
 }
 
 // The slot of a tag, and where its bytes end.
 #[derive(Clone, Copy)]
 struct Key {
-    slot: usize,
+    slot: Option<usize>,
     end: usize,
 }
 
 fn key_at(text: &[u8], at: usize, table: &[u32]) -> Key
     requires { (at ≤ length text.now) × (length table.now ≡ table_size) }
-    ensures { (result.slot ≡ slot_from table.now (drop at text.now)) × TagEnd text.now at result.end }
+    ensures { IsPlace result.slot (slot_from table.now (drop at text.now)) × TagEnd text.now at result.end }
 {
-    let hashed = hash_at(text, at, table[114752], table[114753]);
+    let hashed = hash_at(text, at, table[KEYS], table[KEYS + 1]);
     Key {
         slot: slot_of(table, hashed.hash),
         end: hashed.end,
     }
 }
 
-fn mark(table: &mut [u32], h: u64)
-    requires { length table.old ≡ table_size }
-{
-    let w = word_of(h);
-    table[w] = table[w] | (1 << (h / 0x1000 % 32));
+// What became of a number that was to be put into the table.
+#[derive(Clone, Copy, PartialEq, Eq)]
+enum Placed {
+    Full,
+    There,
+    New,
 }
 
-// Puts a number into the table: 0 where there is no place for it, 1 where it stands there, 2 where it is new.
-fn put(table: &mut [u32], f: u32, at: usize) -> u32
+fn put(table: &mut [u32], f: u32, at: usize) -> Placed
     requires { (length table.old ≡ table_size) × (at < slots) }
 {
-    let mut i = at;
-    let mut n: usize = 64;
-    while 0 < n {
+    for i in at..at + 64 {
         let x = table[i];
         if x == f {
-            return 1;
+            return Placed::There;
         }
         if x == 0 {
             table[i] = f;
-            return 2;
+            return Placed::New;
         }
-        i += 1;
-        n -= 1;
     }
-    0
+    Placed::Full
 }
 
-// The same for a hash.
-fn put_hash(table: &mut [u32], h: u64) -> u32
+// The same for a hash, which is marked.
+fn put_hash(table: &mut [u32], h: u64) -> Placed
     requires { length table.old ≡ table_size }
 {
-    mark(table, h);
+    let w = word_of(h);
+    table[w] |= 1 << (h / 0x1000 % 32);
     put(table, (h / 0x1_0000_0000) as u32, start_of(h))
 }
 
@@ -177,32 +176,24 @@ fn collect(text: &[u8], from: usize, table: &mut [u32])
 {
     let mut free: usize = 49152;
     let mut j = from;
-    while j < text.len() {
-        if j - from >= 0x10_0000 {
-            return;
-        }
+    while j < text.len() && j - from < 0x10_0000 && free > 0 {
         if text[j] != b'$' {
             j += 1;
             continue;
         }
-        let hashed = hash_at(text, j + 1, table[114752], table[114753]);
+        let hashed = hash_at(text, j + 1, table[KEYS], table[KEYS + 1]);
         j = hashed.end;
-        let done = put_hash(table, hashed.hash);
-        if done == 0 {
-            return;
-        }
-        if done == 2 {
-            free -= 1;
-            if free == 0 {
-                return;
-            }
+        match put_hash(table, hashed.hash) {
+            Placed::Full => return,
+            Placed::There => {}
+            Placed::New => free -= 1,
         }
     }
 }
 
 // Notes for each slot where its tag is last seen after a `$`.
 fn note_last(text: &[u8], from: usize, table: &[u32], last: &mut [u32])
-    requires { (length table.now ≡ table_size) × (length text.now ≤ max_query_size) }
+    requires { (length table.now ≡ table_size) × (length last.old ≡ filter_at) × (length text.now ≤ max_query_size) }
     ensures { Seen text.now from table.now last.new (length text.now) }
 {
     let mut j = from;
@@ -212,123 +203,78 @@ fn note_last(text: &[u8], from: usize, table: &[u32], last: &mut [u32])
             continue;
         }
         let key = key_at(text, j + 1, table);
-        let slot = key.slot;
-        if slot < last.len() {
+        if let Some(slot) = key.slot {
             last[slot] = j as u32;
         }
         j = key.end;
     }
 }
 
-// True only if the `$` at `at` begins no here-document: its tag is not seen after it.
-fn is_lone(text: &[u8], at: usize, from: usize, table: &[u32], last: &[u32]) -> bool
-    requires { (length table.now ≡ table_size) × (from ≤ at) × Seen text.now from table.now last.now (length text.now) }
-    ensures { result ≡ true → Lone text.now at }
-{
-    if byte_at(text, at) != b'$' {
-        return false;
-    }
-    let key = key_at(text, at + 1, table);
-    if byte_at(text, key.end) != b'$' {
-        return true;
-    }
-    let slot = key.slot;
-    if slot >= last.len() {
-        return false;
-    }
-    last[slot] as usize <= key.end
+// The tags of a text from an offset on, and where each is last seen.
+#[derive(Clone, Copy)]
+struct Tags<'a> {
+    text: &'a [u8],
+    from: usize,
+    table: &'a [u32],
+    last: &'a [u32],
 }
 
-// Up to where no `$` begins a here-document.
-fn lone_until(text: &[u8], from: usize, table: &[u32], last: &[u32]) -> usize
-    requires { (length table.now ≡ table_size) × (from ≤ length text.now) × Seen text.now from table.now last.now (length text.now) }
-    ensures { LoneUntil text.now from result × (from ≤ result) × (result ≤ length text.now) }
-{
-    let mut i = from;
-    while i < text.len() {
-        if text[i] == b'$' {
-            if !is_lone(text, i, from, table, last) {
+impl Tags<'_> {
+    // True only if the `$` at `at` begins no here-document: its tag is not seen after it.
+    fn is_lone(self, at: usize) -> bool
+        requires { Holds self × (self.from ≤ at) }
+        ensures { result ≡ true → Lone self.entry.text.now at }
+    {
+        if byte_at(self.text, at) != b'$' {
+            return false;
+        }
+        let key = key_at(self.text, at + 1, self.table);
+        if byte_at(self.text, key.end) != b'$' {
+            return true;
+        }
+        match key.slot {
+            Some(slot) => self.last[slot] as usize <= key.end,
+            None => false,
+        }
+    }
+
+    // Up to where no `$` begins a here-document.
+    fn lone_until(self) -> usize
+        requires { Holds self × (self.from ≤ length self.text.now) }
+        ensures { let s = self.entry.text.now in LoneUntil s self.entry.from result × (self.entry.from ≤ result) × (result ≤ length s) }
+    {
+        for i in self.from..self.text.len() {
+            if self.text[i] == b'$' && !self.is_lone(i) {
                 return i;
             }
         }
-        i += 1;
+        self.text.len()
     }
-    i
-}
 
-// The bits of 64 offsets.
-fn word_at(text: &[u8], at: usize, from: usize, table: &[u32], last: &[u32]) -> u64
-    requires { (length table.now ≡ table_size) × (from ≤ at) × (at ≤ length text.now) × Seen text.now from table.now last.now (length text.now) }
-    ensures { LoneWord text.now at result }
-{
-    let mut word: u64 = 0;
-    let mut k = 64;
-    while 0 < k {
-        k -= 1;
-        let bit = is_lone(text, at + k, from, table, last);
-        word = word * 2 + if bit { 1 } else { 0 };
-    }
-    word
-}
-
-// The words of the window at `at`; those past the text's end are 0.
-fn fill_bits(text: &[u8], at: usize, from: usize, table: &[u32], last: &[u32], lone: &mut [u64])
-    requires { (length table.now ≡ table_size) × (from ≤ at) × (at ≤ length text.now) × Seen text.now from table.now last.now (length text.now) }
-    ensures { LoneWords text.now at lone.new (length lone.new) }
-{
-    let mut m = 0;
-    while m < lone.len() {
-        if (text.len() - at) / 64 < m {
-            lone[m] = 0;
-        } else {
-            lone[m] = word_at(text, at + m * 64, from, table, last);
+    // The bits of 64 offsets.
+    fn word_at(self, at: usize) -> u64
+        requires { Holds self × (self.from ≤ at) × (at ≤ length self.text.now) }
+        ensures { LoneWord self.entry.text.now at result }
+    {
+        let mut word: u64 = 0;
+        for k in (0..64).rev() {
+            word = word * 2 + u64::from(self.is_lone(at + k));
         }
-        m += 1;
+        word
     }
-}
 
-// The state of a digest, and one round of SipHash.
-#[derive(Clone, Copy)]
-struct State {
-    a: u64,
-    b: u64,
-    c: u64,
-    d: u64,
-}
-
-fn turned(x: u64, k: u32) -> u64
-    requires { (0 < k) × (k < 64) }
-{
-    (x << k) | (x >> (64 - k))
-}
-
-fn round(v: State) -> State {
-    let a = wrapping_add_u64(v.a, v.b);
-    let b = turned(v.b, 13) ^ a;
-    let c = wrapping_add_u64(v.c, v.d);
-    let d = turned(v.d, 16) ^ c;
-    let e = wrapping_add_u64(turned(a, 32), d);
-    let f = wrapping_add_u64(c, b);
-    State {
-        a: e,
-        b: turned(b, 17) ^ f,
-        c: turned(f, 32),
-        d: turned(d, 21) ^ e,
-    }
-}
-
-fn absorbed(v: State, w: u64) -> State {
-    let r = round(State {
-        a: v.a,
-        b: v.b,
-        c: v.c,
-        d: v.d ^ w,
-    });
-    State {
-        a: r.a ^ w,
-        b: r.b,
-        c: r.c,
-        d: r.d,
+    // The words of the window at `at`; those past the text's end are 0.
+    fn fill_bits(self, at: usize, lone: &mut [u64])
+        requires { Holds self × (self.from ≤ at) × (at ≤ length self.text.now) }
+        ensures { LoneWords self.entry.text.now at lone.new (length lone.new) }
+    {
+        for m in 0..lone.len() {
+            lone[m] = if (self.text.len() - at) / 64 < m {
+                0
+            } else {
+                self.word_at(at + m * 64)
+            };
+        }
     }
 }
 
@@ -336,60 +282,34 @@ fn absorbed(v: State, w: u64) -> State {
 fn digest(text: &[u8], from: usize) -> u64
     requires { from ≤ length text.now }
 {
-    let mut v = State {
-        a: 0x736F_6D65_7073_6575,
-        b: 0x646F_7261_6E64_6F6D,
-        c: 0x6C79_6765_6E65_7261,
-        d: 0x7465_6462_7974_6573,
-    };
-    let mut j = from;
-    while text.len() - j >= 8 {
-        v = absorbed(v, eight(text, j));
-        j += 8;
-    }
-    let mut w = (text.len() - j) as u64;
-    while j < text.len() {
-        w = (w << 8) | text[j] as u64;
-        j += 1;
-    }
-    v = absorbed(v, w);
-    v = round(round(round(State {
-        a: v.a,
-        b: v.b,
-        c: v.c ^ 255,
-        d: v.d,
-    })));
-    v.a ^ v.b ^ v.c ^ v.d
+    let mut hasher = DefaultHasher::new();
+    hasher.write(&text[from..]);
+    hasher.finish()
 }
 
-// A table that holds nothing but two keys.
-fn seeded(seed: u64, table: &mut [u32])
-    requires { length table.old ≡ table_size }
-{
-    table[114752] = (seed / 0x1_0000_0000) as u32 | 0x8000_0001;
-    table[114753] = (seed % 0x1_0000_0000) as u32 | 0x8000_0001;
-}
-
-// Makes a table of the tags from an offset on.
-fn prepare(text: &[u8], from: usize, table: &mut [u32])
-    requires { (length table.old ≡ table_size) × (from ≤ length text.now) }
-{
-    seeded(digest(text, from), table);
-    collect(text, from, table);
-}
-
-// Looks ahead: marks what it can from an offset on, and says where the window of the bits begins. It takes 787 KB of stack, and so is called by the
-// loops themselves: called once, by the function below, the compiler would make it a part of that one, whose every call would then touch as much.
+// Looks ahead: marks what it can from an offset on, and says where the window of the bits begins. It takes 787 KB of stack, which no other call is to
+// touch: it stays out of line.
+#[cold]
+#[inline(never)]
 pub fn look_ahead(text: &[u8], from: usize, lone: &mut [u64]) -> usize
     requires { (length text.now ≤ max_query_size) × (from ≤ length text.now) }
     ensures { Marked text.now from result lone.new }
 {
-    let mut table = [0u32; 114754];
-    let mut last = [0u32; 81984];
-    prepare(text, from, &mut table);
+    let seed = digest(text, from);
+    let mut table = [0; TABLE];
+    table[KEYS] = (seed / 0x1_0000_0000) as u32 | 0x8000_0001;
+    table[KEYS + 1] = (seed % 0x1_0000_0000) as u32 | 0x8000_0001;
+    collect(text, from, &mut table);
+    let mut last = [0; PLACES];
     note_last(text, from, &table, &mut last);
-    let until = lone_until(text, from, &table, &last);
-    fill_bits(text, until, from, &table, &last, lone);
+    let tags = Tags {
+        text,
+        from,
+        table: &table,
+        last: &last,
+    };
+    let until = tags.lone_until();
+    tags.fill_bits(until, lone);
     until
 }
 
@@ -426,15 +346,10 @@ impl Marks<'_> {
 }
 
 // Whether the tag at `at` is closed, so that a here-document's end was looked for.
-fn is_closed(text: &[u8], at: usize) -> bool {
-    let mut j = at;
-    while j < text.len() {
-        if !is_tag_byte(text[j]) {
-            return text[j] == b'$';
-        }
-        j += 1;
-    }
-    false
+fn is_closed(text: &[u8], at: usize) -> bool
+    requires { at ≤ length text.now }
+{
+    text[at..].iter().find(|b| !is_tag_byte(**b)) == Some(&b'$')
 }
 
 // A token that was read, and whether a here-document's end was looked for in vain, from the token's end to the text's.

@@ -1,5 +1,5 @@
 // A walk over a text's tokens, one after another.
-ghost use Rattle.std.specs.Prelude.{◌≡◌, ◌<◌, ◌≤◌, length};
+ghost use Rattle.std.specs.Prelude.{◌≡◌, ◌-◌, ◌<◌, ◌≤◌, length};
 ghost use Rattle.std.proofs.Props.{props};
 ghost use Rattle.rules.specs.Limits.{max_query_size};
 ghost use Rattle.ahead.specs.Marks.{Marked, look_after};
@@ -10,7 +10,7 @@ use ahead::{LOOK_AFTER, Marks, wasted_by};
 use lexer::token::Token;
 
 // It stands at the cursor, and stops at `stop`, which comes down to 0 where so much was searched in vain that it pays to look ahead.
-#[derive(Clone, Copy)]
+#[derive(Drop)]
 pub struct Walk<'a> {
     pub text: &'a [u8],
     pub cursor: usize,
@@ -28,8 +28,7 @@ pub struct Walk<'a> {
 }
 
 impl<'a> Walk<'a> {
-    ghost use Rattle.std.specs.Prelude.{ℕ, List, MatchOption};
-    ghost use Rattle.edges.specs.Walks.{Goes, Comes};
+    ghost use Rattle.edges.specs.Walks.{Goes};
 
     pub fn new(text: &'a [u8], cursor: usize, stop: usize, marks: Marks<'a>) -> Self
         requires limit { length text.now ≤ max_query_size }
@@ -48,26 +47,6 @@ impl<'a> Walk<'a> {
             shy: false,
             rest: Rest { base: 0, bits: 0 },
         }
-    }
-
-    // The token at the cursor.
-    #[inline(always)]
-    pub fn next(&mut self) -> Option<Token>
-        ensures going { (s : List ℕ) (position from : ℕ) → Goes s position from self.old → Goes s position from self.new }
-        ensures token { (s : List ℕ) (position from : ℕ) → Goes s position from self.old → MatchOption result ((self.new.cursor ≡ self.old.cursor) × (from < position → from < self.new.cursor)) (λ t. (self.old.cursor < position) × Comes s self.old.cursor t self.new.cursor) }
-    {
-        let start = self.cursor;
-        if start >= self.stop {
-            return None;
-        }
-        let next = self.told_or_read();
-        self.cursor = next.token.end;
-        self.rest = next.rest;
-        Some(Token {
-            kind: next.token.kind,
-            start: start as u32,
-            end: next.token.end as u32,
-        })
     }
 
     // By its first byte and the byte after it, or else by its readers.
@@ -106,5 +85,34 @@ impl<'a> Walk<'a> {
             self.stop = 0;
         }
         taken(found.token, rest)
+    }
+}
+
+impl Iterator for Walk<'_> {
+    type Item = Token;
+
+    ghost use Rattle.std.specs.Iterator.{at_most};
+    ghost use Rattle.edges.specs.Walks.{Steps};
+
+    ghost next_gives = { Steps };
+
+    ghost remaining = { λ w. at_most (length w.text.now - w.cursor) };
+
+    // The token at the cursor.
+    #[inline(always)]
+    fn next(&mut self) -> Option<Token>
+    {
+        let start = self.cursor;
+        if start >= self.stop {
+            return None;
+        }
+        let next = self.told_or_read();
+        self.cursor = next.token.end;
+        self.rest = next.rest;
+        Some(Token {
+            kind: next.token.kind,
+            start: start as u32,
+            end: next.token.end as u32,
+        })
     }
 }

@@ -1,5 +1,4 @@
 -- What is stored, with what is left, is as at first.
-use Rattle.std.proofs.Common.{◌-◌, length}
 use Rattle.edges.specs.Walks.{Goes}
 use Rattle.lists.specs.Choices.{chosen}
 use Rattle.lists.specs.Walks.{Packs}
@@ -7,6 +6,3 @@ use Rattle.lists.proofs.listing.fill_some.Given as goal
 
 abbrev pub invariant-loop-token : goal.invariant-loop-token
 invariant-loop-token l = Goes l.text l.choice.position l.fn.from.cursor l.walk × Packs l.initial.list l.fn.from.bytes (chosen l.choice l.text l.fn.from.cursor) l.list l.bytes (chosen l.choice l.text l.walk.cursor)
-
-abbrev pub decreases-loop-token : goal.decreases-loop-token
-decreases-loop-token l = length l.text - l.walk.cursor

@@ -1,5 +1,5 @@
 -- A copy that was masked up to the first offset is masked up to the cursor.
-use Rattle.std.proofs.Common.{◌≡◌, ℕ, ◌-◌, ◌≤◌, List, length}
+use Rattle.std.proofs.Common.{◌≡◌, ℕ, ◌≤◌, List, length}
 use Rattle.edges.specs.Walks.{Goes}
 use Rattle.masking.specs.Walks.{Copied}
 use Rattle.masking.proofs.copy.mask_some.Given as goal
@@ -9,6 +9,3 @@ invariant-loop-token l =
     Goes l.text (length l.text) l.fn.from l.walk
     × (length l.copy ≡ length l.initial.copy)
     × ((first : List ℕ) → length l.text ≤ length first → Copied l.text first l.initial.copy l.fn.from → Copied l.text first l.copy l.walk.cursor)
-
-abbrev pub decreases-loop-token : goal.decreases-loop-token
-decreases-loop-token l = length l.text - l.walk.cursor
