@@ -2,9 +2,9 @@
 #![tactic(auto)]
 
 ghost use Rattle.std.specs.Prelude.{◌≡◌};
-ghost use Rattle.rules.specs.Answers.{listing, listing_up_to, step as step_at, token_text, shown_text, masked_copy, place_at};
+ghost use Rattle.rules.specs.Answers.{listing, listing_up_to, step as step_at, token_text as token_text_of, shown_text as shown_text_of, masked_copy, place_at};
 ghost use Rattle.rules.specs.Statements.{first_statement};
-ghost use Rattle.rules.specs.Saved.{saving, loading, saved_text};
+ghost use Rattle.rules.specs.Saved.{saving, loading, saved_text as saved_text_of};
 ghost use Rattle.giehtamun.specs.Packed.{packed_written, packed_step, packed_part, packed_place, packed_first, packed_text, packed_loaded};
 
 #[unsafe(no_mangle)]
@@ -42,7 +42,7 @@ pub extern "C" fn giehtamun_mask(text: &[u8], copy: &mut [u8]) -> u64
 
 #[unsafe(no_mangle)]
 pub extern "C" fn giehtamun_token_text(text: &[u8], start: usize, end: usize) -> u64
-    ensures { result ≡ packed_part (token_text text.now start end) }
+    ensures { result ≡ packed_part (token_text_of text.now start end) }
 {
     giehtamun::giehtamun_token_text(text, start, end)
 }
@@ -55,7 +55,7 @@ pub extern "C" fn giehtamun_shown_text(
     start: usize,
     end: usize,
 ) -> u64
-    ensures { result ≡ packed_part (shown_text text.now copy.now kind start end) }
+    ensures { result ≡ packed_part (shown_text_of text.now copy.now kind start end) }
 {
     giehtamun::giehtamun_shown_text(text, copy, kind, start, end)
 }
@@ -97,7 +97,7 @@ pub extern "C" fn giehtamun_load(file: &[u8], list: &mut [u8]) -> u64
 
 #[unsafe(no_mangle)]
 pub extern "C" fn giehtamun_saved_text(file: &[u8]) -> u64
-    ensures { result ≡ packed_part (saved_text file.now) }
+    ensures { result ≡ packed_part (saved_text_of file.now) }
 {
     giehtamun::giehtamun_saved_text(file)
 }
