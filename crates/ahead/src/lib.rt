@@ -325,7 +325,10 @@ impl Marks<'_> {
     pub fn none() -> Marks<'static>
         ensures { (s : List ℕ) (from : ℕ) → Marked s from result.until result.lone.now }
     {
-        Marks { until: 0, lone: &[] }
+        Marks {
+            until: 0,
+            lone: &[],
+        }
     }
 
     fn has(self, at: usize) -> bool

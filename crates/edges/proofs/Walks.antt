@@ -73,15 +73,14 @@ module _ (s : List ℕ) (start : ℕ) (r : Rest) (n : r.bits ≡ 0 → ⊥) (b :
   token fits h t = plain s start (base + z) fits h end_after end_in none here.1 t
 
   pub next : Left s (base + z) (record { base = base; bits = bit_and bits (bits - 1) })
-  next x =
-      (
-        omega arith,
-        block.1,
-            ap (λ (m : ℕ). bit_and m (m - 1)) block.2
-            ∙ cleared (edge_after s start) (edge_after s (base + z)) 64 base z before_end found.none (found.some before_end)
-            (λ k h. not_after s (base + z) (base + k) (omega arith))
-            (λ k h l. is-after s (base + z) (base + k) (omega arith) ∙ sym (is-after s start (base + k) (let e = end_after in omega arith))),
-      )
+  next x = (
+    omega arith,
+    block.1,
+    ap (λ (m : ℕ). bit_and m (m - 1)) block.2
+        ∙ cleared (edge_after s start) (edge_after s (base + z)) 64 base z before_end found.none (found.some before_end)
+        (λ k h. not_after s (base + z) (base + k) (omega arith))
+        (λ k h l. is-after s (base + z) (base + k) (omega arith) ∙ sym (is-after s start (base + k) (let e = end_after in omega arith))),
+  )
 
 -- after a token that was read
 pub later : (s : List ℕ) (start : ℕ) (r : Rest) (end : ℕ) → r.base ≤ end → end - r.base < 63 → start < end → Left s start r

@@ -166,13 +166,7 @@ pub struct Stored {
 }
 
 // Stores on to the end, or until it pays to look ahead.
-fn fill_some(
-    text: &[u8],
-    choice: Choice,
-    list: &mut [u8],
-    from: Stored,
-    marks: Marks,
-) -> Stored
+fn fill_some(text: &[u8], choice: Choice, list: &mut [u8], from: Stored, marks: Marks) -> Stored
     requires { (length text.now ≤ max_query_size) × (choice.position ≤ length text.now) × (from.cursor ≤ length text.now) × (from.bytes + length (chosen choice text.now from.cursor) * token_bytes ≤ length list.old) × Marked text.now from.cursor marks.until marks.lone.now }
     ensures { StoredOn choice text.now from list.old result list.new }
 {

@@ -108,7 +108,13 @@ fn mask_some(text: &[u8], copy: &mut [u8], from: usize, marks: Marks) -> usize
     let mut walk = Walk::new(text, from, text.len(), marks);
     while let Some(token) = walk.next() {
         if hides(token.kind) {
-            mask_token(text, copy, token.kind, token.start as usize, token.end as usize);
+            mask_token(
+                text,
+                copy,
+                token.kind,
+                token.start as usize,
+                token.end as usize,
+            );
         }
     }
     walk.cursor

@@ -30,7 +30,6 @@ read_number-requires c = ((omega (arith, c.if-start-text.false)), (lead-number _
 pub returns-then-k-eq-Number : goal.returns-then-k-eq-Number
 returns-then-k-eq-Number c = c.read_number.ensures ∙ as_number _ _ (omega (arith, c.if-start-text.false)) (sym c.first_byte_kind-k.ensures ∙ c.if-k-eq-Number.true)
 
-
 -- such a character lies in the text
 pub overflow_add-start-then-n-ne0 : goal.overflow_add-start-then-n-ne0
 overflow_add-start-then-n-ne0 c =
