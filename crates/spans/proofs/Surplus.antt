@@ -7,6 +7,7 @@ use native.Mathlib.Omega.{arith}
 use native.Mathlib.Decide.{dec_lt}
 use lib.Dec.{leb, eqb}
 use lib.ListN.{length, get_or, drop}
+use mir.Val.{bool_byte}
 use borrow.Author.Tests.{le-leb, lt-leb, ne_eqb, eq-eqb, leb-true, leb-false, eqb-true, eqb-false, not-true}
 use Rattle.rules.specs.Utf8.{within, utf8_tail, utf8_two, utf8_three, utf8_four, formed, well_formed, begun, width, char_at}
 use Rattle.rules.proofs.Tests.{and_both}
@@ -22,6 +23,11 @@ and-true false = refl
 pub bit_most : (t : Bool) → bit t ≤ 1
 bit_most true = omega arith
 bit_most false = omega arith
+
+-- as the code converts a test
+pub byte_bit : (t : Bool) → bool_byte t ≡ bit t
+byte_bit true = refl
+byte_bit false = refl
 
 -- a tail that is bounded more
 from_low : (lo b : ℕ) → 0x80 ≤ lo → (utf8_tail b && leb lo b) ≡ within lo 0xBF b
