@@ -2,7 +2,7 @@
 use Prim.Native.Nat.{ℕ, zero, suc, ◌+◌, ◌-◌, ◌≤◌, ◌<◌}
 use mathlib.Core.Path.{◌≡◌, refl, sym, ap, ap₂, ◌∙◌}
 use mathlib.Core.List.{List}
-use mathlib.Core.Bool.{Bool, true, false, not, cond, ◌&&◌, ◌||◌, and-false}
+use mathlib.Core.Bool.{Bool, true, false, not, cond, ◌&&◌, and-false}
 use native.Mathlib.Omega.{arith}
 use native.Mathlib.Decide.{dec_lt}
 use lib.Dec.{leb, eqb}
@@ -51,14 +51,6 @@ module _ (a b : ℕ) where
 
   goes_above : 0xF4 < a → goes_on a b ≡ false
   goes_above h = simp (lt-leb a 0xF4 h, and-false)
-
-  -- below F0 the last bounds need no test
-  pub goes_by : (four : Bool) → (four ≡ false → a < 0xF0)
-      → ((leb 0xC2 a && utf8_tail b)
-      && (((not (eqb a 0xE0) || leb 0xA0 b) && (not (eqb a 0xED) || not (leb 0xA0 b))) && (not four || (leb a 0xF4 && ((not (eqb a 0xF0) || leb 0x90 b) && (not (eqb a 0xF4) || not (leb 0x90 b)))))))
-      ≡ goes_on a b
-  goes_by true h = refl
-  goes_by false h = let l = h refl in sym (rw (le-leb a 0xF4 (omega arith), ne_eqb a 0xF0 (λ e. omega arith), ne_eqb a 0xF4 (λ e. omega arith)))
 
   goes_plain : 0xC2 ≤ a → a < 0xF4 → (a ≡ 0xE0 → ⊥) → (a ≡ 0xED → ⊥) → (a ≡ 0xF0 → ⊥) → goes_on a b ≡ utf8_tail b
   goes_plain l h x y z =

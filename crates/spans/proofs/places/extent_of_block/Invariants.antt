@@ -1,5 +1,5 @@
 -- The bytes so far are within the two.
-use Rattle.std.proofs.Common.{ℕ, ◌+◌, ◌≤◌, ◌<◌, get_or}
+use Rattle.std.proofs.Common.{◌+◌}
 use Rattle.spans.specs.Sums.{Within}
 use Rattle.spans.proofs.places.extent_of_block.Given as goal
 

@@ -1,7 +1,6 @@
 -- What a mark says, where the mark is known.
-use Rattle.std.proofs.Common.{rules, sym, ap, ◌∙◌}
+use Rattle.std.proofs.Common.{rules}
 use Rattle.spans.specs.Sums.{marked}
-use Rattle.spans.specs.declared.places.Mark.{Mark}
 use Rattle.spans.proofs.places.is_marked.Goals as goal
 use Rattle.spans.proofs.places.is_marked.Goals.{in-144-to-191, in_default, in_default-2}
 

@@ -1,8 +1,8 @@
 -- A block without a line end adds its surplus.
-use Rattle.std.proofs.Common.{◌≡◌, ℕ, ◌-◌, ◌+◌, ◌≤◌, sym, ap, arith, ◌∙◌}
+use Rattle.std.proofs.Common.{◌≡◌, ℕ, ◌-◌, ◌+◌, sym, ap, arith, ◌∙◌}
 use Rattle.spans.specs.Sums.{between, end_at, surplus_at}
 use Rattle.spans.proofs.Sums.{sum_none, sum_block}
-use Rattle.spans.proofs.Lines.{starts_near, starts_far}
+use Rattle.spans.proofs.Lines.{starts_far}
 use Rattle.spans.proofs.Blocks.{end_marks, ends_high, block_most}
 use Rattle.spans.proofs.places.line_before.Goals as goal
 use Rattle.spans.proofs.places.line_before.Goals.{then-text-upto-lt2+else-from-last, else-text-upto-lt2, else-least-le13-via-then-least-le13+else-count-ne0, else-least-le13-via-else-least-le13}

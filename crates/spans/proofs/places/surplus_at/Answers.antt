@@ -1,6 +1,5 @@
 -- The character's bytes are its width.
-use Rattle.std.proofs.Common.{◌≡◌, sym, arith, ◌∙◌, drop}
-use Rattle.rules.specs.Utf8.{width, char_at}
+use Rattle.std.proofs.Common.{sym, arith, ◌∙◌, drop}
 use Rattle.rules.proofs.Decoding.{some_left, fits_at}
 use Rattle.utf8.proofs.Units.{unit_width}
 use Rattle.spans.proofs.Surplus.{surplus_wide, surplus_other}

@@ -1,5 +1,5 @@
 -- The sum with one byte more.
-use Rattle.std.proofs.Common.{sym, arith, ◌∙◌, ◌+◌}
+use Rattle.std.proofs.Common.{sym, arith, ◌+◌}
 use Rattle.spans.specs.Sums.{surplus_at}
 use Rattle.spans.proofs.Sums.{sum_start, sum_more}
 use Rattle.spans.proofs.Surplus.{surplus_parts}
