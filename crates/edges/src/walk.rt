@@ -100,8 +100,7 @@ impl Iterator for Walk<'_> {
 
     // The token at the cursor.
     #[inline(always)]
-    fn next(&mut self) -> Option<Token>
-    {
+    fn next(&mut self) -> Option<Token> {
         let start = self.cursor;
         if start >= self.stop {
             return None;

@@ -29,14 +29,8 @@ fn tag_width(text: &[u8], start: usize, end: usize) -> usize
     requires { Span text.now start end }
     ensures { result ≡ tag_width (bytes_of text.now start end) }
 {
-    let mut i = start + 1;
-    while i < end {
-        if text[i] == b'$' {
-            return i + 1 - start;
-        }
-        i += 1;
-    }
-    i + 1 - start
+    let rest = &text[start + 1..end];
+    rest.iter().position(|b| *b == b'$').unwrap_or(rest.len()) + 2
 }
 
 // How many bytes a token of a hiding kind keeps at its front.
@@ -44,16 +38,11 @@ fn keeps_front(text: &[u8], kind: u32, start: usize, end: usize) -> usize
     requires { Hiding kind text.now start end }
     ensures { result ≡ front kind (bytes_of text.now start end) }
 {
-    if kind == SyntaxKind::Comment {
-        return 2;
+    match kind {
+        SyntaxKind::Comment | SyntaxKind::ErrorMultilineCommentIsNotClosed => 2,
+        SyntaxKind::HereDoc => tag_width(text, start, end),
+        _ => quote_width(text, start),
     }
-    if kind == SyntaxKind::ErrorMultilineCommentIsNotClosed {
-        return 2;
-    }
-    if kind == SyntaxKind::HereDoc {
-        return tag_width(text, start, end);
-    }
-    quote_width(text, start)
 }
 
 // How many at its back.
@@ -61,20 +50,12 @@ fn keeps_back(text: &[u8], kind: u32, start: usize, end: usize) -> usize
     requires { Hiding kind text.now start end }
     ensures { result ≡ back kind (bytes_of text.now start end) }
 {
-    if kind == SyntaxKind::Comment {
-        return if byte_at(text, start + 1) == b'*' {
-            2
-        } else {
-            0
-        };
+    match kind {
+        SyntaxKind::Comment if byte_at(text, start + 1) == b'*' => 2,
+        SyntaxKind::StringToken => quote_width(text, start),
+        SyntaxKind::HereDoc => tag_width(text, start, end),
+        _ => 0,
     }
-    if kind == SyntaxKind::StringToken {
-        return quote_width(text, start);
-    }
-    if kind == SyntaxKind::HereDoc {
-        return tag_width(text, start, end);
-    }
-    0
 }
 
 // Hides the bytes from `from` on, before `to`.
@@ -82,11 +63,7 @@ fn hide(copy: &mut [u8], from: usize, to: usize)
     requires { (from ≤ to) × (to ≤ length copy.old) }
     ensures { copy.new ≡ hide from to copy.old }
 {
-    let mut i = from;
-    while i < to {
-        copy[i] = mask_byte();
-        i += 1;
-    }
+    copy[from..to].fill(mask_byte());
 }
 
 // Hides what a token of a hiding kind hides. Out of line, it leaves the walk one test of a kind: with its cases in the loop, masking takes a tenth longer.

@@ -10,7 +10,7 @@ use lib.ListN.{length, get_or}
 use borrow.Author.Tests.{ne_eqb}
 use Rattle.rules.specs.Characters.{line_feed, carriage_return}
 use Rattle.rules.specs.Places.{ends_line}
-use Rattle.spans.specs.Sums.{bit, between, end_at, surplus_at, marked, mark_at, Within}
+use Rattle.spans.specs.Sums.{bit, between, end_at, surplus_at, marked, mark_at}
 use Rattle.spans.specs.declared.places.Mark.{Mark}
 use Rattle.spans.specs.declared.places.Mark.TheVariants.{End, Lead, Two, Three, Four}
 use Rattle.spans.proofs.Sums.{sum_zero, sum_same, sum_even, sum_twice, sum_most, sum_start, sum_more}
@@ -84,19 +84,6 @@ module _ (s : List ℕ) (i : ℕ) where
       go : (added k ≤ k) ⊎ ((added k ≤ k + 1) × (surplus_at s (i + k) ≡ 0)) → added k ≤ k + 1
       go (inl p) = omega arith
       go (inr p) = p.0
-
--- Bounds for one byte more
-module _ {s : List ℕ} {from : ℕ} (n : ℕ) {least most least' most' : ℕ} (w : Within s from (from + n) least most) (a : least' ≤ least) (b : least' ≤ get_or s (from + n) 0) (c : most ≤ most') (d : get_or s (from + n) 0 ≤ most') where
-  down : (k : ℕ) → from ≤ k → k < from + (n + 1) → Dec (k < from + n) → least' ≤ get_or s k 0
-  down k l u (yes v) = omega (arith, w.low k l v)
-  down k l u (no v) = let e : k ≡ from + n = omega arith in omega (arith, ap (λ (i : ℕ). get_or s i 0) e)
-
-  up : (k : ℕ) → from ≤ k → k < from + (n + 1) → Dec (k < from + n) → get_or s k 0 ≤ most'
-  up k l u (yes v) = omega (arith, w.high k l v)
-  up k l u (no v) = let e : k ≡ from + n = omega arith in omega (arith, ap (λ (i : ℕ). get_or s i 0) e)
-
-  pub within_more : Within s from (from + (n + 1)) least' most'
-  within_more = record { low = λ k l u. down k l u (dec_lt k (from + n)); high = λ k l u. up k l u (dec_lt k (from + n)) }
 
 -- Line ends are a mark of their own, at most one a byte,
 pub end_marks : (s : List ℕ) (i j : ℕ) → between (mark_at End s) i j ≡ between (end_at s) i j

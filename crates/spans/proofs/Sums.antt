@@ -106,6 +106,12 @@ sum_before f i j p h =
     let e : (i - 1) + 1 ≡ i = omega arith in
     sum_first f (i - 1) j (omega arith) ∙ ap (λ (k : ℕ). f (i - 1) + between f k j) e
 
+-- with the block before
+pub sum_block : (f : ℕ → ℕ) (i j m n : ℕ) → 128 ≤ i → i ≤ j → m ≡ between f (i - 128) (i - 128 + 128) → n ≡ between f i j → n + m ≡ between f (i - 128) j
+sum_block f i j m n p h d e =
+    let g : (i - 128) + 128 ≡ i = omega arith in
+    omega (arith, d, e, ap (between f (i - 128)) g, sum_join f (i - 128) i j (omega arith) h)
+
 -- from an index on, by how many
 pub sum_start : (f : ℕ → ℕ) (i : ℕ) → between f i (i + 0) ≡ 0
 sum_start f i = let e : i + 0 ≡ i = omega arith in ap (between f i) e ∙ sum_none f i

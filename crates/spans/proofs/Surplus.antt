@@ -2,11 +2,12 @@
 use Prim.Native.Nat.{ℕ, zero, suc, ◌+◌, ◌-◌, ◌≤◌, ◌<◌}
 use mathlib.Core.Path.{◌≡◌, refl, sym, ap, ap₂, ◌∙◌}
 use mathlib.Core.List.{List}
-use mathlib.Core.Bool.{Bool, true, false, not, cond, ◌&&◌, ◌||◌, and-false}
+use mathlib.Core.Bool.{Bool, true, false, not, cond, ◌&&◌, and-false}
 use native.Mathlib.Omega.{arith}
 use native.Mathlib.Decide.{dec_lt}
 use lib.Dec.{leb, eqb}
 use lib.ListN.{length, get_or, drop}
+use mir.Val.{bool_byte}
 use borrow.Author.Tests.{le-leb, lt-leb, ne_eqb, eq-eqb, leb-true, leb-false, eqb-true, eqb-false, not-true}
 use Rattle.rules.specs.Utf8.{within, utf8_tail, utf8_two, utf8_three, utf8_four, formed, well_formed, begun, width, char_at}
 use Rattle.rules.proofs.Tests.{and_both}
@@ -22,6 +23,11 @@ and-true false = refl
 pub bit_most : (t : Bool) → bit t ≤ 1
 bit_most true = omega arith
 bit_most false = omega arith
+
+-- as the code converts a test
+pub byte_bit : (t : Bool) → bool_byte t ≡ bit t
+byte_bit true = refl
+byte_bit false = refl
 
 -- a tail that is bounded more
 from_low : (lo b : ℕ) → 0x80 ≤ lo → (utf8_tail b && leb lo b) ≡ within lo 0xBF b
@@ -45,14 +51,6 @@ module _ (a b : ℕ) where
 
   goes_above : 0xF4 < a → goes_on a b ≡ false
   goes_above h = simp (lt-leb a 0xF4 h, and-false)
-
-  -- below F0 the last bounds need no test
-  pub goes_by : (four : Bool) → (four ≡ false → a < 0xF0)
-      → ((leb 0xC2 a && utf8_tail b)
-      && (((not (eqb a 0xE0) || leb 0xA0 b) && (not (eqb a 0xED) || not (leb 0xA0 b))) && (not four || (leb a 0xF4 && ((not (eqb a 0xF0) || leb 0x90 b) && (not (eqb a 0xF4) || not (leb 0x90 b)))))))
-      ≡ goes_on a b
-  goes_by true h = refl
-  goes_by false h = let l = h refl in sym (rw (le-leb a 0xF4 (omega arith), ne_eqb a 0xF0 (λ e. omega arith), ne_eqb a 0xF4 (λ e. omega arith)))
 
   goes_plain : 0xC2 ≤ a → a < 0xF4 → (a ≡ 0xE0 → ⊥) → (a ≡ 0xED → ⊥) → (a ≡ 0xF0 → ⊥) → goes_on a b ≡ utf8_tail b
   goes_plain l h x y z =

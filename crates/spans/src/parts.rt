@@ -14,17 +14,23 @@ use utf8::{byte_at, is_tail};
 pub fn hides(kind: u32) -> bool
     ensures { result ≡ hiding_kind kind }
 {
-    (kind == SyntaxKind::Comment)
-        | (kind == SyntaxKind::StringToken)
-        | (kind == SyntaxKind::HereDoc)
-        | (SyntaxKind::ErrorMultilineCommentIsNotClosed <= kind)
-            & (kind <= SyntaxKind::ErrorBackQuoteIsNotClosed)
+    matches!(
+        kind,
+        SyntaxKind::Comment
+            | SyntaxKind::StringToken
+            | SyntaxKind::HereDoc
+            | SyntaxKind::ErrorMultilineCommentIsNotClosed
+                ..=SyntaxKind::ErrorBackQuoteIsNotClosed
+    )
 }
 
 fn is_kind(kind: u32) -> bool
     ensures { result ≡ some_kind kind }
 {
-    (SyntaxKind::Whitespace <= kind) & (kind <= SyntaxKind::ErrorMaxQuerySizeExceeded)
+    matches!(
+        kind,
+        SyntaxKind::Whitespace..=SyntaxKind::ErrorMaxQuerySizeExceeded
+    )
 }
 
 // The part is none: out of order, past the end, or cut inside a character.

@@ -22,7 +22,7 @@ pub struct Position {
 }
 
 // What is counted in a block, told by a byte and the two after it.
-#[derive(Clone, Copy)]
+#[derive(Clone, Copy, PartialEq, Eq, Debug)]
 pub enum Mark {
     // A line end, at the byte that it ends with.
     End,
@@ -37,17 +37,10 @@ pub enum Mark {
 }
 
 // The line that an index is in: where it starts, and what its characters before the index have more of bytes than of units.
-#[derive(Clone, Copy)]
+#[derive(Clone, Copy, PartialEq, Eq, Debug)]
 pub struct Line {
     pub start: usize,
     pub surplus: usize,
-}
-
-// The least and the greatest byte of a block, or beyond.
-#[derive(Clone, Copy)]
-pub struct Extent {
-    pub least: u8,
-    pub most: u8,
 }
 
 fn ends_line(a: u8, next: u8) -> bool
@@ -59,7 +52,7 @@ fn ends_line(a: u8, next: u8) -> bool
 fn is_two(a: u8, b: u8) -> bool
     ensures { result ≡ utf8_two a b }
 {
-    ((0xC2 <= a) & (a <= 0xDF)) & is_tail(b)
+    matches!(a, 0xC2..=0xDF) & is_tail(b)
 }
 
 // No test is a jump, here and in the others of a block, so that a block's become one.
@@ -71,7 +64,7 @@ fn is_marked(mark: Mark, a: u8, b: u8, c: u8) -> bool
         Mark::Lead => 0xC2 <= a,
         Mark::Two => is_two(a, b),
         Mark::Three => ((0xE1 <= a) & (a != 0xED)) & (is_tail(b) & is_tail(c)),
-        Mark::Four => ((a == 0xF0) & ((0x90 <= b) & (b <= 0xBF))) & is_tail(c),
+        Mark::Four => ((a == 0xF0) & matches!(b, 0x90..=0xBF)) & is_tail(c),
     }
 }
 
@@ -81,38 +74,25 @@ fn count(text: &[u8], from: usize, mark: Mark) -> u8
     requires { from + 130 ≤ length text.now }
     ensures { result ≡ between (mark_at mark text.now) from (from + 128) }
 {
-    let mut n: u8 = 0;
-    let mut k = 0;
-    while k < 128 {
-        if is_marked(mark, text[from + k], text[from + k + 1], text[from + k + 2]) {
-            n += 1;
-        }
-        k += 1;
+    let mut n = 0;
+    for k in 0..128 {
+        n += u8::from(is_marked(mark, text[from + k], text[from + k + 1], text[from + k + 2]));
     }
     n
 }
 
-fn extent_of_block(text: &[u8], from: usize) -> Extent
+// The least and the greatest byte of a block, or beyond.
+fn extent_of_block(text: &[u8], from: usize) -> (u8, u8)
     requires { from + 128 ≤ length text.now }
-    ensures { Within text.now from (from + 128) result.least result.most }
+    ensures { Within text.now from (from + 128) result.0 result.1 }
 {
-    let mut least: u8 = 0xFF;
-    let mut most: u8 = 0;
-    let mut k = 0;
-    while k < 128 {
-        let a = text[from + k];
-        if a < least {
-            least = a;
-        }
-        if most < a {
-            most = a;
-        }
-        k += 1;
+    let mut least = 0xFF;
+    let mut most = 0;
+    for a in &text[from..from + 128] {
+        least = least.min(*a);
+        most = most.max(*a);
     }
-    Extent {
-        least: least,
-        most: most,
-    }
+    (least, most)
 }
 
 // What the character at i has more of bytes than of units.
@@ -143,7 +123,7 @@ fn surplus_by(a: u8, b: u8, c: u8, four: bool) -> u8
 {
     let second = goes_on(a, b, four);
     let third = (second & (0xE0 <= a)) & is_tail(c);
-    second as u8 + third as u8
+    u8::from(second) + u8::from(third)
 }
 
 // Over a block of any characters. After a byte that adds to it comes one that does not, so a byte holds it. The compiler knows `four` at each call.
@@ -151,11 +131,9 @@ fn surplus_of_any(text: &[u8], from: usize, four: bool) -> u8
     requires { (from + 130 ≤ length text.now) × (four ≡ false → (k : ℕ) → from ≤ k → k < from + 128 → get_or text.now k 0 < 0xF0) }
     ensures { result ≡ between (surplus_at text.now) from (from + 128) }
 {
-    let mut n: u8 = 0;
-    let mut k = 0;
-    while k < 128 {
+    let mut n = 0;
+    for k in 0..128 {
         n += surplus_by(text[from + k], text[from + k + 1], text[from + k + 2], four);
-        k += 1;
     }
     n
 }
@@ -197,17 +175,13 @@ fn line_ends(text: &[u8], upto: usize) -> usize
     requires { upto ≤ length text.now }
     ensures { result ≡ between (end_at text.now) 0 upto }
 {
+    let blocks = upto.saturating_sub(2) / 128;
     let mut n = 0;
-    let mut i = 0;
-    while upto - i >= 130 {
-        n += count(text, i, Mark::End) as usize;
-        i += 128;
+    for k in 0..blocks {
+        n += usize::from(count(text, 128 * k, Mark::End));
     }
-    while i < upto {
-        if end_at(text, i) {
-            n += 1;
-        }
-        i += 1;
+    for i in 128 * blocks..upto {
+        n += usize::from(end_at(text, i));
     }
     n
 }
@@ -217,21 +191,19 @@ fn line_by_byte(text: &[u8], from: usize, upto: usize) -> Line
     requires { (from ≤ upto) × (upto ≤ length text.now) × (length text.now ≤ max_query_size) }
     ensures { Starts text.now from upto result.start result.surplus }
 {
-    let mut n = 0;
-    let mut i = upto;
-    while from < i {
-        if end_at(text, i - 1) {
+    let mut surplus = 0;
+    for i in (from..upto).rev() {
+        if end_at(text, i) {
             return Line {
-                start: i,
-                surplus: n,
+                start: i + 1,
+                surplus,
             };
         }
-        i -= 1;
-        n += surplus_at(text, i);
+        surplus += surplus_at(text, i);
     }
     Line {
-        start: i,
-        surplus: n,
+        start: from,
+        surplus,
     }
 }
 
@@ -243,7 +215,7 @@ fn line_before(text: &[u8], upto: usize) -> Line
     let mut n = 0;
     let mut i = upto;
     if text.len() - upto < 2 {
-        let from = if upto < 2 { 0 } else { upto - 2 };
+        let from = upto.saturating_sub(2);
         let last = line_by_byte(text, from, upto);
         if from < last.start {
             return last;
@@ -251,14 +223,12 @@ fn line_before(text: &[u8], upto: usize) -> Line
         n = last.surplus;
         i = from;
     }
-    while 128 <= i {
-        let e = extent_of_block(text, i - 128);
-        if e.least <= b'\r' {
-            if count(text, i - 128, Mark::End) != 0 {
-                break;
-            }
+    while i >= 128 {
+        let (least, most) = extent_of_block(text, i - 128);
+        if least <= b'\r' && count(text, i - 128, Mark::End) != 0 {
+            break;
         }
-        n += surplus_of_block(text, i - 128, e.most);
+        n += surplus_of_block(text, i - 128, most);
         i -= 128;
     }
     let first = line_by_byte(text, 0, i);
@@ -273,15 +243,10 @@ fn edge_of(text: &[u8], offset: usize) -> usize
     requires { offset ≤ length text.now }
     ensures { Edge text.now offset result }
 {
-    let mut back = 1;
-    while back < 4 {
-        if offset < back {
-            return offset;
+    for i in (offset.saturating_sub(3)..offset).rev() {
+        if len_at(text, i) > offset - i {
+            return i;
         }
-        if len_at(text, offset - back) > back {
-            return offset - back;
-        }
-        back += 1;
     }
     offset
 }

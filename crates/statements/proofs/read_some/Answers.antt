@@ -9,8 +9,7 @@ loop-token-preserved c =
     let v = c.loop-token.invariant in
     let n = c.in-Some.ensures.steps.token _ _ _ v.0 in
     let s = c.args.text.now in
-    let p = read_up_to c.loop-token.walk.cursor c.loop-token.tokens (length s) in
-    (
+    let p = read_up_to c.loop-token.walk.cursor c.loop-token.tokens (length s) in (
       c.in-Some.ensures.steps.going _ _ _ v.0,
       came_open s p v.1 c.in-Some.token _ n.1,
       came_other s p v.1 c.in-Some.token _ n.1 (sym c.is_delimiter.ensures ∙ c.if-is_delimiter.false) ∙ v.2,

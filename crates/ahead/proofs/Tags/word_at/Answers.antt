@@ -19,10 +19,9 @@ loop-k-preserved c =
     let s = c.args.self.text.now in
     let f = c.from.result in
     let v = c.loop-k.invariant in
-    let few : f ≤ 1 = omega (arith, few_of c.is_lone.result, c.from.ensures) in
-    (
+    let few : f ≤ 1 = omega (arith, few_of c.is_lone.result, c.from.ensures) in (
       omega arith,
       (size_more c.loop-k.word f c.loop-k.k few (omega arith) v.0 v.1).0,
       word_more s (c.args.at + (c.loop-k.k - 1)) c.loop-k.word f few (λ e. c.is_lone.ensures (one_of c.is_lone.result (sym c.from.ensures ∙ e)))
-      (λ i e. let z : c.args.at + c.loop-k.k + i ≡ c.args.at + (c.loop-k.k - 1) + 1 + i = omega arith in subst (Lone s) z (v.2 i e)),
+          (λ i e. let z : c.args.at + c.loop-k.k + i ≡ c.args.at + (c.loop-k.k - 1) + 1 + i = omega arith in subst (Lone s) z (v.2 i e)),
     )

@@ -26,7 +26,7 @@ returns-clause-steps c =
       token = λ s position from g. (
         omega (arith, c.if-start-self.false, g.upto),
         subst (λ s. Comes s c.args.self.now.cursor (record { kind = next.kind; start = c.args.self.now.cursor; end = next.end }) next.end) g.text
-        (record { start = refl; upto = refl; lexed = t; moves = l.0; inside = l.1 }),
+            (record { start = refl; upto = refl; lexed = t; moves = l.0; inside = l.1 }),
       );
     }
 
