@@ -32,20 +32,29 @@ fn pack_records(records: [Token; 64], list: &mut [u8])
     }
 }
 
-fn whole_agrees(settings: Settings, text: &[u8]) -> bool {
+// Whether a listing into packed bytes and one into records give the same list.
+fn agrees<L: FnOnce(&mut [u8]) -> Result<usize, Refusal>>(list_in: L, records: [Token; 64]) -> bool
+    requires { L.IsAlwaysCallable list_in }
+{
     let mut list = space();
-    let _ = tokenize(settings, text, &mut list);
+    let _ = list_in(&mut list);
     let mut own = space();
-    pack_records(records_64(settings, text), &mut own);
+    pack_records(records, &mut own);
     list == own
 }
 
+fn whole_agrees(settings: Settings, text: &[u8]) -> bool {
+    agrees(
+        |list| tokenize(settings, text, list),
+        records_64(settings, text),
+    )
+}
+
 fn up_to_agrees(settings: Settings, text: &[u8]) -> bool {
-    let mut list = space();
-    let _ = tokenize_up_to_position(settings, text, &mut list);
-    let mut own = space();
-    pack_records(records_64_up_to(settings, text), &mut own);
-    list == own
+    agrees(
+        |list| tokenize_up_to_position(settings, text, list),
+        records_64_up_to(settings, text),
+    )
 }
 
 // As a number and a value.

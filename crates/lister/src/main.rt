@@ -20,16 +20,10 @@ const TEXT_SPACE: usize = MOST_BYTES + 1;
 // Room for a token a byte.
 const LIST_SPACE: usize = MOST_BYTES * TOKEN_BYTES;
 
-fn text_space() -> [u8; TEXT_SPACE]
-    ensures { 65537 ≡ length result }
+fn zeros<const N: usize>() -> [u8; N]
+    ensures { N ≡ length result }
 {
-    [0; TEXT_SPACE]
-}
-
-fn list_space() -> [u8; LIST_SPACE]
-    ensures { 65536 * token_bytes ≡ length result }
-{
-    [0; LIST_SPACE]
+    [0; N]
 }
 
 // How many bytes one read gave, or nothing where it failed.
@@ -77,7 +71,7 @@ fn print_refusal(rt: &impl Print, refusal: Refusal) -> io::Result<()> {
 }
 
 fn print_list(rt: &impl Print, text: &[u8]) -> io::Result<()> {
-    let mut list = list_space();
+    let mut list = zeros::<LIST_SPACE>();
     match tokenize(Settings::new(), text, &mut list) {
         Ok(tokens) => {
             print_tokens(rt, &list, tokens)?;
@@ -88,7 +82,7 @@ fn print_list(rt: &impl Print, text: &[u8]) -> io::Result<()> {
 }
 
 fn main(rt: HostRuntime) -> io::Result<()> {
-    let mut text = text_space();
+    let mut text = zeros::<TEXT_SPACE>();
     let Some(n) = read_text(&mut rt.stdin(), &mut text) else {
         return rt.eprintln("lister: standard input can't be read");
     };

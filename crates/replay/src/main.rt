@@ -14,10 +14,12 @@ use std::io::Read;
 use std::rt::Files;
 
 // More than the file has, so that its end is seen.
-fn space() -> [u8; 524288]
-    ensures { 524288 ≡ length result }
+const SPACE: usize = 524288;
+
+fn zeros<const N: usize>() -> [u8; N]
+    ensures { N ≡ length result }
 {
-    [0; 524288]
+    [0; N]
 }
 
 fn print_damaged(rt: &impl Print, texts: usize) -> io::Result<()> {
@@ -90,7 +92,7 @@ fn read_file(rt: &impl Files, space: &mut [u8]) -> Option<usize>
 }
 
 fn main(rt: HostRuntime) -> io::Result<()> {
-    let mut file = space();
+    let mut file = zeros::<SPACE>();
     let Some(n) = read_file(&rt, &mut file) else {
         return print_damaged(&rt, 0);
     };
