@@ -1,5 +1,4 @@
--- What both kinds of part refuse; sums over bytes; what a byte adds to them, and a block; and that a place is made of them.
-mod Refused
+-- Sums over bytes; what a byte adds to them, and a block; and that a place is made of them.
 pub mod Sums
 pub mod Surplus
 pub mod Blocks

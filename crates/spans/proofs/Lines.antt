@@ -251,11 +251,7 @@ module _ (s : List ℕ) where
         let column : units_of (last_line (read 0 e)) ≡ (e - a) - n = omega (arith, column_is) in
         ap place_in (ap (λ (m : ℕ). before m (chars s)) (sym z) ∙ at_edge) ∙ ap (λ (m : ℕ). record { line = m; column = units_of (last_line (read 0 e)) }) lines ∙ ap (λ (m : ℕ). record { line = between (end_at s) 0 a; column = m }) column
 
--- A line that starts between two indices starts there in the whole text too,
-pub starts_near : {s : List ℕ} {from upto r n : ℕ} → Starts s from upto r n → from < r → Starts s 0 upto r n
-starts_near {s} {from} {upto} {r} {n} p h = record { low = omega arith; high = p.high; none = p.none; after = λ z. p.after h; more = p.more }
-
--- and one that is sought further back, past bytes without a line end, has their surplus too.
+-- A line that is sought further back, past bytes without a line end, has their surplus too.
 pub starts_far : {s : List ℕ} {i upto r m n : ℕ} → Starts s 0 i r m → i ≤ upto → between (end_at s) i upto ≡ 0 → n ≡ between (surplus_at s) i upto → Starts s 0 upto r (n + m)
 starts_far {s} {i} {upto} {r} {m} {n} p h z e =
     let l = p.high in

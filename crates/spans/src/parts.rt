@@ -54,6 +54,7 @@ fn check_part(text: &[u8], start: usize, end: usize) -> Result<(), Refusal>
 }
 
 // The part of the text from start to end.
+#[tactic(auto, unfolding(rules::specs::Answers::token_text))]
 pub fn token_text<'a>(text: &'a [u8], start: usize, end: usize) -> Result<&'a [u8], Refusal>
     ensures { part result (λ bytes. bytes.now) ≡ token_text text.now start end }
 {
@@ -62,6 +63,7 @@ pub fn token_text<'a>(text: &'a [u8], start: usize, end: usize) -> Result<&'a [u
 }
 
 // The part of the masked copy for a hiding kind, and the part of the text otherwise.
+#[tactic(auto, unfolding(rules::specs::Answers::shown_text))]
 pub fn shown_text<'a>(
     text: &'a [u8],
     copy: &'a [u8],

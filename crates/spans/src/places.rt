@@ -56,6 +56,7 @@ fn is_two(a: u8, b: u8) -> bool
 }
 
 // No test is a jump, here and in the others of a block, so that a block's become one.
+#[tactic(auto, unfolding(crate::specs::Sums::marked))]
 fn is_marked(mark: Mark, a: u8, b: u8, c: u8) -> bool
     ensures { result ≡ marked mark a b c }
 {
@@ -70,6 +71,7 @@ fn is_marked(mark: Mark, a: u8, b: u8, c: u8) -> bool
 
 // How many there are in the 128 bytes of a block, so that a byte holds it: the compiler adds 16 of these at once. It knows the mark at each
 // call. The two bytes after the block are read too.
+#[tactic(auto, using(crate::proofs::Sums::sum_start, crate::proofs::Sums::sum_more, crate::proofs::Surplus::byte_bit, crate::proofs::Surplus::bit_most))]
 fn count(text: &[u8], from: usize, mark: Mark) -> u8
     requires { from + 130 ≤ length text.now }
     ensures { result ≡ between (mark_at mark text.now) from (from + 128) }
@@ -96,6 +98,7 @@ fn extent_of_block(text: &[u8], from: usize) -> (u8, u8)
 }
 
 // What the character at i has more of bytes than of units.
+#[tactic(auto, using(utf8::proofs::Units::unit_width, rules::proofs::Decoding::some_left, rules::proofs::Decoding::fits_at, crate::proofs::Surplus::surplus_wide, crate::proofs::Surplus::surplus_other))]
 fn surplus_at(text: &[u8], i: usize) -> usize
     requires { i < length text.now }
     ensures { result ≡ surplus_at text.now i }
@@ -127,6 +130,7 @@ fn surplus_by(a: u8, b: u8, c: u8, four: bool) -> u8
 }
 
 // Over a block of any characters. After a byte that adds to it comes one that does not, so a byte holds it. The compiler knows `four` at each call.
+#[tactic(auto, using(crate::proofs::Sums::sum_start, crate::proofs::Sums::sum_more, crate::proofs::Surplus::surplus_parts, crate::proofs::Blocks::block_few))]
 fn surplus_of_any(text: &[u8], from: usize, four: bool) -> u8
     requires { (from + 130 ≤ length text.now) × (four ≡ false → (k : ℕ) → from ≤ k → k < from + 128 → get_or text.now k 0 < 0xF0) }
     ensures { result ≡ between (surplus_at text.now) from (from + 128) }
@@ -139,6 +143,7 @@ fn surplus_of_any(text: &[u8], from: usize, four: bool) -> u8
 }
 
 // The same in a shorter way, where each byte that begins more has two after it that need no other test: then such bytes are counted.
+#[tactic(auto, using(crate::proofs::Blocks::block_low, crate::proofs::Blocks::block_two, crate::proofs::Blocks::block_three, crate::proofs::Blocks::block_four))]
 fn surplus_of_block(text: &[u8], from: usize, most: u8) -> usize
     requires { (from + 130 ≤ length text.now) × ((k : ℕ) → from ≤ k → k < from + 128 → get_or text.now k 0 ≤ most) }
     ensures { result ≡ between (surplus_at text.now) from (from + 128) }
@@ -187,6 +192,7 @@ fn line_ends(text: &[u8], upto: usize) -> usize
 }
 
 // The line that an index is in, sought backwards as far as another index, byte by byte.
+#[tactic(auto, using(crate::proofs::Sums::sum_none, crate::proofs::Sums::sum_before, crate::proofs::Blocks::block_most))]
 fn line_by_byte(text: &[u8], from: usize, upto: usize) -> Line
     requires { (from ≤ upto) × (upto ≤ length text.now) × (length text.now ≤ max_query_size) }
     ensures { Starts text.now from upto result.start result.surplus }
@@ -251,6 +257,7 @@ fn edge_of(text: &[u8], offset: usize) -> usize
     offset
 }
 
+#[tactic(auto, unfolding(rules::specs::Answers::place_at))]
 pub fn place(text: &[u8], offset: usize) -> Result<Position, Refusal>
     ensures { placed result offset ≡ place_at text.now offset }
 {

@@ -1,15 +1,8 @@
+-- The line ends before the line's start, and the bytes since less the surplus, are the place.
 use Rattle.std.proofs.Common.{rules, arith}
 use Rattle.rules.specs.Answers.{place_at}
 use Rattle.spans.proofs.Lines.{surplus_fits, place-sums}
 use Rattle.spans.proofs.places.place.Goals as goal
-
-pub returns-then-text-max_query_size : goal.returns-then-text-max_query_size
-unfolding place_at
-returns-then-text-max_query_size c = search rules
-
-pub returns-then-text-offset : goal.returns-then-text-offset
-unfolding place_at
-returns-then-text-offset c = search rules
 
 pub overflow_sub-result-2 : goal.overflow_sub-result-2
 overflow_sub-result-2 c =
