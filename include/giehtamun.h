@@ -1,7 +1,7 @@
 /* Giehtamun: ClickHouse's SQL tokenizer as C functions. Each function is proved to answer what its comment says; the inline helpers are
    plain C, and tested. Buffers that are lent to one call must not overlap one another where one of them is written.
-   Lists, masked copies, first statements and their texts take at most 38 KB of stack, and 824 KB where a text has many dollar signs that begin
-   nothing; the others, and saved lists, under 4 KB.
+   A call takes at most 2 KB of stack; lists, masked copies, first statements and their texts take 824 KB where a text has many dollar signs that begin
+   nothing.
 
    A text is any bytes. A token has a kind, a start and an end, both byte offsets into the text; it ends before the byte at its end. A
    packed list holds GIEHTAMUN_TOKEN_BYTES bytes a token: kind, start, end, each 32 bits, low byte first. A list's room is its length

@@ -54,9 +54,9 @@ fn lists_masks_and_statements(text: &[u8]) {
 }
 
 #[test]
-fn a_query_takes_38_kilobytes() {
+fn a_query_takes_two_kilobytes() {
     let text = "SELECT a, 'שלום', $$b$$ /* c */ FROM naïve, aक, 1क, 2一, 1१ -- d\n".repeat(1_000);
-    take_at_most(38_000, &|| lists_masks_and_statements(text.as_bytes()));
+    take_at_most(2_000, &|| lists_masks_and_statements(text.as_bytes()));
 }
 
 #[test]
@@ -66,11 +66,11 @@ fn a_text_that_is_looked_ahead_in_takes_824() {
 }
 
 #[test]
-fn all_else_takes_four() {
+fn all_else_takes_two() {
     let text = "SELECT 'a' FROM naïve, 一 😀\r\n".repeat(1_000).into_bytes();
     let damaged = [&text[..], b"\xE2\x80a\xE2\x80'\xF0\x9F"].concat();
     let tokens = list(&text).unwrap();
-    take_at_most(4_000, &|| {
+    take_at_most(2_000, &|| {
         for text in [&text[..], &damaged] {
             assert!(steps(text).unwrap().count() > 1_000);
             place(text, text.len()).unwrap();
