@@ -4,7 +4,7 @@
 pub mod walk;
 
 ghost use Rattle.std.specs.Prelude.{◌≡◌, ℕ, ◌-◌, ◌≤◌, ◌<◌, leb, length, get_or, drop, List, IfSome};
-ghost use Rattle.rules.specs.Characters.{dollar, quote};
+ghost use Rattle.rules.specs.Characters.{quote};
 ghost use Rattle.rules.specs.Limits.{max_query_size};
 ghost use Rattle.lexer.specs.Ends.{ends_at};
 ghost use Rattle.rules.specs.Tokens.{lexeme, after_dot_at};
@@ -119,23 +119,19 @@ pub struct Next {
     pub rest: Rest,
 }
 
-// A string, or what a `$` is or begins.
+// A string.
 #[inline(never)]
-fn read_enclosed(text: &[u8], start: usize, marks: Marks) -> Found
-    requires { (length text.now ≤ max_query_size) × (start < length text.now) × ((get_or text.now start 0 ≡ dollar → ⊥) → get_or text.now start 0 ≡ quote) × Marked text.now start marks.until marks.lone.now }
-    ensures { Lexes text.now start result }
+fn read_quoted(text: &[u8], start: usize) -> Lexed
+    requires { (start < length text.now) × (get_or text.now start 0 ≡ quote) }
+    ensures { result ≡ ends_at start (lexeme (after_dot_at text.now start) (drop start text.now)) }
 {
-    if text[start] == b'$' {
-        return read_dollar(text, start, marks);
-    }
-    let token = read_string(
+    read_string(
         text,
         start + 1,
         b'\'',
         SyntaxKind::StringToken,
         SyntaxKind::ErrorSingleQuoteIsNotClosed,
-    );
-    Found { token, vain: false }
+    )
 }
 
 // The token at `start` by its readers.
@@ -144,13 +140,15 @@ pub fn read(text: &[u8], start: usize, marks: Marks) -> Found
     requires { (length text.now ≤ max_query_size) × (start < length text.now) × Marked text.now start marks.until marks.lone.now }
     ensures { Lexes text.now start result }
 {
-    if text[start] == b'\'' || text[start] == b'$' {
-        return read_enclosed(text, start, marks);
+    if text[start] == b'$' {
+        return read_dollar(text, start, marks);
     }
-    Found {
-        token: next_token(text, start),
-        vain: false,
-    }
+    let token = if text[start] == b'\'' {
+        read_quoted(text, start)
+    } else {
+        next_token(text, start)
+    };
+    Found { token, vain: false }
 }
 
 // What was read, with the edges that are left of a block.

@@ -66,8 +66,7 @@ fn hide(copy: &mut [u8], from: usize, to: usize)
     copy[from..to].fill(mask_byte());
 }
 
-// Hides what a token of a hiding kind hides. Out of line, it leaves the walk one test of a kind: with its cases in the loop, masking takes a tenth longer.
-#[inline(never)]
+// Hides what a token of a hiding kind hides.
 fn mask_token(text: &[u8], copy: &mut [u8], kind: u32, start: usize, end: usize)
     requires { Hiding kind text.now start end × (length text.now ≤ length copy.old) }
     ensures { let bs = bytes_of text.now start end in copy.new ≡ hide (start + front kind bs) (end - back kind bs) copy.old }
