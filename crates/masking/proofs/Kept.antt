@@ -43,9 +43,9 @@ module _ (k : ℕ) (bs : List ℕ) where
       unclosed w (yes l) = both (leb ErrorSingleQuoteIsNotClosed k) (leb k ErrorBackQuoteIsNotClosed) (le-true ErrorSingleQuoteIsNotClosed k (omega arith)) (le-true k ErrorBackQuoteIsNotClosed w.1)
       unclosed w (no l) = absurd (m (omega arith))
 
-  pub front-quote : hiding_kind k ≡ true → (k ≡ Comment → ⊥) → (k ≡ ErrorMultilineCommentIsNotClosed → ⊥) → (k ≡ HereDoc → ⊥) → front k bs ≡ quote_width bs
+  pub front_quote : hiding_kind k ≡ true → (k ≡ Comment → ⊥) → (k ≡ ErrorMultilineCommentIsNotClosed → ⊥) → (k ≡ HereDoc → ⊥) → front k bs ≡ quote_width bs
   unfolding front
-  front-quote h c m d = rw (ne_eqb k Comment c, ne_eqb k ErrorMultilineCommentIsNotClosed m, quotes h c m d)
+  front_quote h c m d = rw (ne_eqb k Comment c, ne_eqb k ErrorMultilineCommentIsNotClosed m, quotes h c m d)
 
   pub back_comment : k ≡ Comment → back k bs ≡ cond (eqb (get_or bs 1 0) star) 2 0
   unfolding back

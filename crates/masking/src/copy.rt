@@ -18,6 +18,7 @@ use spans::parts::hides;
 use utf8::{byte_at, valid_length};
 
 // The bytes of the quote at `start`.
+#[tactic(auto, using(crate::proofs::Spans::first_byte), unfolding(rules::specs::Masking::quote_width))]
 fn quote_width(text: &[u8], start: usize) -> usize
     ensures { result ≡ quote_width (drop start text.now) }
 {
@@ -34,6 +35,7 @@ fn tag_width(text: &[u8], start: usize, end: usize) -> usize
 }
 
 // How many bytes a token of a hiding kind keeps at its front.
+#[tactic(auto, using(crate::proofs::Spans::span_quote, crate::proofs::Kept::front_comment, crate::proofs::Kept::front_open_comment, crate::proofs::Kept::front_here, crate::proofs::Kept::front_quote))]
 fn keeps_front(text: &[u8], kind: u32, start: usize, end: usize) -> usize
     requires { Hiding kind text.now start end }
     ensures { result ≡ front kind (bytes_of text.now start end) }
@@ -46,6 +48,7 @@ fn keeps_front(text: &[u8], kind: u32, start: usize, end: usize) -> usize
 }
 
 // How many at its back.
+#[tactic(auto, using(crate::proofs::Spans::span_quote, crate::proofs::Kept::back_string, crate::proofs::Kept::back_here, crate::proofs::Kept::back_none))]
 fn keeps_back(text: &[u8], kind: u32, start: usize, end: usize) -> usize
     requires { Hiding kind text.now start end }
     ensures { result ≡ back kind (bytes_of text.now start end) }
@@ -120,6 +123,7 @@ fn mask_tokens(text: &[u8], copy: &mut [u8])
 }
 
 // The masked copy of a text. It is as long as the text.
+#[tactic(auto, unfolding(rules::specs::Answers::masked_copy))]
 pub fn mask(text: &[u8], copy: &mut [u8]) -> Result<usize, Refusal>
     ensures { written result copy.new ≡ masked_copy text.now copy.old }
 {

@@ -19,8 +19,7 @@ pub fn hides(kind: u32) -> bool
         SyntaxKind::Comment
             | SyntaxKind::StringToken
             | SyntaxKind::HereDoc
-            | SyntaxKind::ErrorMultilineCommentIsNotClosed
-                ..=SyntaxKind::ErrorBackQuoteIsNotClosed
+            | SyntaxKind::ErrorMultilineCommentIsNotClosed..=SyntaxKind::ErrorBackQuoteIsNotClosed
     )
 }
 

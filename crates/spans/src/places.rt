@@ -175,7 +175,7 @@ fn end_at(text: &[u8], i: usize) -> bool
     ends_line(text[i], byte_at(text, i + 1))
 }
 
-// The line ends before an index.
+// The line ends before an index, by blocks as far as the two bytes that a block is read with lie before it too, and then byte by byte.
 fn line_ends(text: &[u8], upto: usize) -> usize
     requires { upto ≤ length text.now }
     ensures { result ≡ between (end_at text.now) 0 upto }
@@ -213,7 +213,8 @@ fn line_by_byte(text: &[u8], from: usize, upto: usize) -> Line
     }
 }
 
-// The same as far as the text's start, by blocks. A block is read with the two bytes after it, so a text's last two come first.
+// The same as far as the text's start, by blocks. A block is read with the two bytes after it, so a text's last two come first. The blocks
+// are a `while`, since the search byte by byte goes on from where they leave off.
 fn line_before(text: &[u8], upto: usize) -> Line
     requires { (upto ≤ length text.now) × (length text.now ≤ max_query_size) }
     ensures { Starts text.now 0 upto result.start result.surplus }

@@ -7,8 +7,8 @@ use Rattle.rules.specs.Characters.{star}
 use Rattle.rules.specs.Kinds.{Comment}
 use Rattle.rules.specs.Masking.{back}
 use Rattle.masking.specs.Spans.{bytes_of, Hiding}
-use Rattle.masking.proofs.Spans.{span_at, span_quote}
-use Rattle.masking.proofs.Kept.{front_comment, back_comment, back_string, back_here, back_none}
+use Rattle.masking.proofs.Spans.{span_at}
+use Rattle.masking.proofs.Kept.{front_comment, back_comment}
 use Rattle.masking.proofs.copy.keeps_back.Goals as goal
 
 -- a comment by the byte that the code reads
@@ -22,15 +22,6 @@ pub returns-in-2 : goal.returns-in-2
 returns-in-2 c =
     sym (comment c.args.kind c.args.text.now c.args.start c.args.end c.requires c.byte_at.result c.in-2.is c.byte_at.ensures ∙ ap (λ b. cond b 2 0) (eq-eqb _ _ c.if-byte_at-eq42.true))
 
-pub returns-in-5 : goal.returns-in-5
-returns-in-5 c = c.quote_width.ensures ∙ sym (back_string c.args.kind _ c.in-5.is ∙ span_quote c.args.text.now c.args.start c.args.end c.requires.span)
-
-pub returns-in-7 : goal.returns-in-7
-returns-in-7 c = c.tag_width.ensures ∙ sym (back_here _ _ c.in-7.is)
-
 pub returns-in_default : goal.returns-in_default
 returns-in_default c =
     sym (comment c.args.kind c.args.text.now c.args.start c.args.end c.requires c.byte_at.result c.in-2.is c.byte_at.ensures ∙ ap (λ b. cond b 2 0) (ne_eqb _ _ c.if-byte_at-eq42.false))
-
-pub returns-in_default-2 : goal.returns-in_default-2
-returns-in_default-2 c = sym (back_none _ _ (λ e. omega arith) (λ e. omega arith) (λ e. omega arith))

@@ -5,18 +5,6 @@ use Rattle.rules.proofs.Masked.{length-masked}
 use Rattle.masking.proofs.Copying.{filled_over}
 use Rattle.masking.proofs.copy.mask.Goals as goal
 
-pub returns-then-size-max_query_size : goal.returns-then-size-max_query_size
-unfolding masked_copy
-returns-then-size-max_query_size c = search rules
-
-pub returns-then-valid-size : goal.returns-then-valid-size
-unfolding masked_copy
-returns-then-valid-size c = search rules
-
-pub returns-then-copy-size : goal.returns-then-copy-size
-unfolding masked_copy
-returns-then-copy-size c = search rules
-
 pub mask_tokens-requires : goal.mask_tokens-requires
 mask_tokens-requires c =
     let e = c.copy_front.ensures in

@@ -12,13 +12,13 @@ loop-i-init c =
     let s = c.args.text.now in
     let i = c.if-text-upto-lt2.i in
     elim c.if-text-upto-lt2.branch [
-        then-text-upto-lt2+else-from-last w ↦
-            let p = w.line_by_byte-last.ensures in
-            let same : w.line_by_byte-last.result.start ≡ i = omega (arith, p.low, w.if-from-last.false, w.i-is) in
-            (omega arith, λ h. omega arith, ap (λ (k : ℕ). between (end_at s) k c.args.upto) (sym same) ∙ p.none, omega (arith, w.n-is, p.more, ap (λ (k : ℕ). between (surplus_at s) k c.args.upto) same))
+      | then-text-upto-lt2+else-from-last w ↦
+          let p = w.line_by_byte-last.ensures in
+          let same : w.line_by_byte-last.result.start ≡ i = omega (arith, p.low, w.if-from-last.false, w.i-is) in
+          (omega arith, λ h. omega arith, ap (λ (k : ℕ). between (end_at s) k c.args.upto) (sym same) ∙ p.none, omega (arith, w.n-is, p.more, ap (λ (k : ℕ). between (surplus_at s) k c.args.upto) same))
       | else-text-upto-lt2 w ↦
-            let same : c.args.upto ≡ i = omega (arith, w.i-is) in
-            (omega arith, λ h. omega arith, ap (λ (k : ℕ). between (end_at s) k c.args.upto) (sym same) ∙ sum_none (end_at s) c.args.upto, omega (arith, w.n-is, sum_none (surplus_at s) c.args.upto, ap (λ (k : ℕ). between (surplus_at s) k c.args.upto) same))
+          let same : c.args.upto ≡ i = omega (arith, w.i-is) in
+          (omega arith, λ h. omega arith, ap (λ (k : ℕ). between (end_at s) k c.args.upto) (sym same) ∙ sum_none (end_at s) c.args.upto, omega (arith, w.n-is, sum_none (surplus_at s) c.args.upto, ap (λ (k : ℕ). between (surplus_at s) k c.args.upto) same))
     ]
 
 pub overflow_add-n : goal.overflow_add-n
@@ -35,7 +35,7 @@ loop-i-preserved c =
     let s = c.args.text.now in
     let at = c.loop-i.i - 128 in
     let quiet : between (end_at s) at (at + 128) ≡ 0 = elim c.else-least-le13.branch [
-        else-least-le13-via-then-least-le13+else-count-ne0 w ↦ omega (arith, end_marks s at (at + 128), w.count.ensures, w.if-count-ne0.false)
+      | else-least-le13-via-then-least-le13+else-count-ne0 w ↦ omega (arith, end_marks s at (at + 128), w.count.ensures, w.if-count-ne0.false)
       | else-least-le13-via-else-least-le13 w ↦ ends_high s at (at + 128) (omega arith) (λ k p u. omega (arith, c.extent_of_block-least.ensures.low k p u, w.if-least-le13.false))
     ] in (
       omega arith,
