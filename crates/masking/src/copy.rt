@@ -54,7 +54,8 @@ fn keeps_back(text: &[u8], kind: u32, start: usize, end: usize) -> usize
     ensures { result ≡ back kind (bytes_of text.now start end) }
 {
     match kind {
-        SyntaxKind::Comment if byte_at(text, start + 1) == b'*' => 2,
+        // No guard: that is a jump, which comments of both kinds in turn mislead.
+        SyntaxKind::Comment => 2 * usize::from(byte_at(text, start + 1) == b'*'),
         SyntaxKind::StringToken => quote_width(text, start),
         SyntaxKind::HereDoc => tag_width(text, start, end),
         _ => 0,
