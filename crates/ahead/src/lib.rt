@@ -176,6 +176,7 @@ fn collect(text: &[u8], from: usize, table: &mut [u32])
 {
     let mut free: usize = 49152;
     let mut j = from;
+    // From tag to tag: a turn goes on where a tag ends, so it is no `for`, here and in `note_last`.
     while j < text.len() && j - from < 0x10_0000 && free > 0 {
         if text[j] != b'$' {
             j += 1;
@@ -296,6 +297,7 @@ pub fn look_ahead(text: &[u8], from: usize, lone: &mut [u64]) -> usize
     ensures { Marked text.now from result lone.new }
 {
     let seed = digest(text, from);
+    // Hashes, bits and keys in one array of fixed size: there is no heap.
     let mut table = [0; TABLE];
     table[KEYS] = (seed / 0x1_0000_0000) as u32 | 0x8000_0001;
     table[KEYS + 1] = (seed % 0x1_0000_0000) as u32 | 0x8000_0001;

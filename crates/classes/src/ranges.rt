@@ -36,6 +36,7 @@ fn pass(at: usize, end: usize, left: u32) -> usize
 {
     let mut k = at;
     let mut left = left;
+    // The second loop goes on from where the first stops, with what is left then.
     while k + 8 <= end {
         let sum = row_sum(eight(&STRIDES, k));
         if left < sum {

@@ -202,6 +202,7 @@ fn read_whitespace(text: &[u8], at: usize) -> usize
     requires { at ≤ length text.now }
     ensures { result ≡ at + run white_space (chars (drop at text.now)) }
 {
+    // A turn goes on by one byte or by a character's, so it is no `for`.
     let mut j = skip_spaces(text, at);
     while j < text.len() {
         let b = text[j];
@@ -235,6 +236,7 @@ fn read_multi_line_comment(text: &[u8], at: usize) -> Lexed
     requires { at ≤ length text.now }
     ensures { result ≡ ends_at at (enclosed 0 (comment_body 0 false (chars (drop at text.now))) Comment ErrorMultilineCommentIsNotClosed) }
 {
+    // A turn goes on by two bytes or to where the next star or slash is.
     let mut j = skip_to_either(text, at, b'*', b'/');
     let mut deeper: usize = 0;
     while j < text.len() {
@@ -413,6 +415,7 @@ pub fn read_string(text: &[u8], at: usize, quote: u8, success_type: u32, error_t
     requires { (0 < quote) × (quote < 0x80) × (quote ≡ backslash → ⊥) }
     ensures { result ≡ ends_at at (enclosed 0 (quoted_body quote false (chars (drop at text.now))) success_type error_type) }
 {
+    // A turn goes on by two bytes or to where the next quote or backslash is.
     let mut i = at;
     while i < text.len() {
         let b = text[i];
@@ -480,6 +483,7 @@ fn find_delimiter(text: &[u8], at: usize, delimiter: &[u8]) -> Option<usize>
     requires { Delimiter delimiter.now × (1 < length delimiter.now) }
     ensures { result ≡ found_end at (length delimiter.now) (find delimiter.now (chars (drop at text.now))) }
 {
+    // A turn goes on to the next `$`.
     let second = delimiter[1];
     let mut i = at;
     while i < text.len() {
@@ -523,7 +527,7 @@ fn is_word_in(c: u32, dollar: bool) -> bool
     classes::is_alphanumeric(c)
 }
 
-// The bytes of the word character at `at`, or 0 where there is none.
+// The bytes of the word character at `at`, or 0 where there is none: the number of bytes gone over, as `Step` has it, and no Option of one.
 fn word_len(text: &[u8], at: usize, dollar: bool) -> usize
     ensures { Step (word_with dollar) text.now at result }
 {
@@ -585,6 +589,7 @@ fn read_word_by_table(text: &[u8], at: usize, dollar: bool) -> usize
 fn read_word(text: &[u8], at: usize, dollar: bool) -> usize
     ensures { result ≡ at + run (word_with dollar) (chars (drop at text.now)) }
 {
+    // A turn goes on by one byte or two.
     let mut j = at;
     while j < text.len() {
         let b = text[j];

@@ -121,7 +121,7 @@ fn count_some(text: &[u8], choice: Choice, from: Counted, marks: Marks) -> Count
     }
 }
 
-// Looks ahead, and counts on.
+// Looks ahead, and counts on. Each walk has its own: the bits stand in its frame, since there is no heap.
 #[cold]
 #[inline(never)]
 fn count_more(text: &[u8], choice: Choice, from: Counted) -> Counted
@@ -182,7 +182,7 @@ fn fill_some(text: &[u8], choice: Choice, list: &mut [u8], from: Stored, marks: 
     }
 }
 
-// Looks ahead, and stores on.
+// Looks ahead, and stores on. Each walk has its own: the bits stand in its frame, since there is no heap.
 #[cold]
 #[inline(never)]
 fn fill_more(text: &[u8], choice: Choice, list: &mut [u8], from: Stored) -> Stored

@@ -8,7 +8,7 @@ ghost use Rattle.lexer.specs.Ends.{token_of};
 
 use lexer::token::Token;
 
-// Low byte first. The four stores compile to one, and so do the four loads of `get_u32`.
+// Low byte first: one store, as `get_u32` is one load.
 pub fn put_u32(list: &mut [u8], at: usize, x: u32) -> usize
     requires { at + 4 ≤ length list.old }
     ensures { (result ≡ at + 4) × (list.new ≡ sets list.old at (bytes_of32 x)) }

@@ -100,7 +100,7 @@ fn mask_some(text: &[u8], copy: &mut [u8], from: usize, marks: Marks) -> usize
     walk.cursor
 }
 
-// Looks ahead, and masks on.
+// Looks ahead, and masks on. Each walk has its own: the bits stand in its frame, since there is no heap.
 #[cold]
 #[inline(never)]
 fn mask_more(text: &[u8], copy: &mut [u8], from: usize) -> usize

@@ -76,6 +76,7 @@ pub fn skip(text: &[u8], at: usize, out: bool, class: Class) -> usize
 {
     let flip = if out { 0x8080_8080_8080_8080 } else { 0 };
     let mut j = at;
+    // The index is the answer, which no iterator over blocks hands back; so in `skip_pairs`.
     while text.len() - j >= 8 {
         let m = others(eight(text, j), class) ^ flip;
         if m != 0 {

@@ -12,6 +12,7 @@ use lexer::token::Token;
 use lists::packed::get_token;
 use rules::token_bytes;
 
+// A number: a caller may give any, and one above it is refused.
 pub const PARTIAL: u32 = 1;
 
 fn is_saved_kind(kind: u32) -> bool
@@ -36,6 +37,8 @@ fn is_accepted(fits: bool, size: u32, at: u32, flag: u32) -> bool
     (flag <= PARTIAL) & fits & ((flag == PARTIAL) | (at == size))
 }
 
+// The two below differ in what a token is read from, and a record's start is the end before it: one function of both would need a trait or a closure, and
+// laws for it, and be longer than the loop that it spares.
 // So many tokens of a packed list.
 pub fn list_fits(list: &[u8], tokens: usize, size: u32, flag: u32) -> bool
     requires { tokens * token_bytes ≤ length list.now }

@@ -230,6 +230,7 @@ fn line_before(text: &[u8], upto: usize) -> Line
         n = last.surplus;
         i = from;
     }
+    // Backwards, from where the bytes before left off, and byte by byte from where this stops.
     while i >= 128 {
         let (least, most) = extent_of_block(text, i - 128);
         if least <= b'\r' && count(text, i - 128, Mark::End) != 0 {

@@ -63,7 +63,7 @@ fn read_some(text: &[u8], from: Reading, marks: Marks) -> Reading
     read_up_to(walk.cursor, tokens, text.len())
 }
 
-// Looks ahead, and reads on.
+// Looks ahead, and reads on. Each walk has its own: the bits stand in its frame, since there is no heap.
 #[cold]
 #[inline(never)]
 fn read_more(text: &[u8], from: Reading) -> Reading

@@ -192,6 +192,7 @@ fn ascii_end(s: &[u8], j: usize) -> usize
     if byte_at(s, k) >= 0x80 {
         return k;
     }
+    // Each loop goes on where the one before it stopped, and where the last one stops is the answer: an iterator for each would hand back neither.
     while s.len() - k >= 64 && are_ascii::<64>(s, k) {
         k += 64;
     }
@@ -276,6 +277,7 @@ fn narrow_end<const N: usize, F: Fn(usize) -> bool>(s: &[u8], j: usize, test: F)
         return j;
     }
     let mut k = j;
+    // As in `ascii_end`, the index is what is wanted.
     while s.len() - k >= 64 && !are_ascii::<64>(s, k) && all16(k, &test) {
         k += 16;
     }
