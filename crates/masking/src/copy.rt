@@ -54,7 +54,7 @@ fn keeps_back(text: &[u8], kind: u32, start: usize, end: usize) -> usize
     ensures { result ≡ back kind (bytes_of text.now start end) }
 {
     match kind {
-        // No guard: that is a jump, which comments of both kinds in turn mislead.
+        // Told without a jump, since comments of both kinds may come in turn.
         SyntaxKind::Comment => 2 * usize::from(byte_at(text, start + 1) == b'*'),
         SyntaxKind::StringToken => quote_width(text, start),
         SyntaxKind::HereDoc => tag_width(text, start, end),
