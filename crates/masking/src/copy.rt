@@ -54,7 +54,7 @@ fn keeps_back(text: &[u8], kind: u32, start: usize, end: usize) -> usize
     ensures { result ≡ back kind (bytes_of text.now start end) }
 {
     match kind {
-        // No guard: that is a jump, which comments of both kinds in turn mislead.
+        // Told without a jump, since comments of both kinds may come in turn.
         SyntaxKind::Comment => 2 * usize::from(byte_at(text, start + 1) == b'*'),
         SyntaxKind::StringToken => quote_width(text, start),
         SyntaxKind::HereDoc => tag_width(text, start, end),
@@ -62,12 +62,14 @@ fn keeps_back(text: &[u8], kind: u32, start: usize, end: usize) -> usize
     }
 }
 
-// Hides the bytes from `from` on, before `to`.
+// Hides the bytes from `from` on, before `to`. A `fill` would write the last byte by itself, after a jump that short comments mislead.
 fn hide(copy: &mut [u8], from: usize, to: usize)
     requires { (from ≤ to) × (to ≤ length copy.old) }
     ensures { copy.new ≡ hide from to copy.old }
 {
-    copy[from..to].fill(mask_byte());
+    for byte in copy[from..to].iter_mut() {
+        *byte = mask_byte();
+    }
 }
 
 // Hides what a token of a hiding kind hides.
