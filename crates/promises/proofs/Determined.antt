@@ -59,7 +59,7 @@ use Rattle.saved.proofs.saver as saver
 use Rattle.saved.specs.contracts.saver as saver_says
 use Rattle.giehtamun.proofs as giehtamun
 use Rattle.giehtamun.specs.contracts as giehtamun_says
-use Rattle.std.specs.Prelude.{Result, Ok, Err}
+use Rattle.std.specs.Prelude.{ℕ, Result, Ok, Err}
 use mathlib.Core.List.{List, []}
 use Rattle.rules.specs.Cases.{part}
 use Rattle.rules.specs.Saved.{Loaded as Files}
