@@ -63,7 +63,7 @@ impl Settings {
     }
 }
 
-// Which tokens a list has: those that start before the position, without the kinds that it drops. The position lies in the text.
+// Which tokens a list has: those that start before the position, without the kinds that it drops.
 #[derive(Clone, Copy)]
 pub struct Choice {
     pub position: usize,
@@ -96,6 +96,15 @@ fn bit_if(test: bool, bit: u64) -> u64
     if test { bit } else { 0 }
 }
 
+// A text that is not too long, and which of its tokens a list has. The position lies in the text.
+#[derive(Clone, Copy)]
+pub struct Chosen<'a> {
+    pub text: &'a [u8],
+    pub choice: Choice,
+    ghost short: { length text.now ≤ max_query_size },
+    ghost inside: { choice.position ≤ length text.now },
+}
+
 // How far a text is counted: the tokens that are kept before a cursor.
 #[derive(Clone, Copy, Default)]
 pub struct Counted {
@@ -104,14 +113,14 @@ pub struct Counted {
 }
 
 // Counts on to the end, or until it pays to look ahead.
-fn count_some(text: &[u8], choice: Choice, from: Counted, marks: Marks) -> Counted
-    requires { (length text.now ≤ max_query_size) × (choice.position ≤ length text.now) × (from.cursor ≤ length text.now) × (from.tokens ≤ from.cursor) × Marked text.now from.cursor marks.until marks.lone.now }
-    ensures { CountedOn choice text.now from result }
+fn count_some(of: Chosen, from: Counted, marks: Marks) -> Counted
+    requires { (from.cursor ≤ length of.text.now) × (from.tokens ≤ from.cursor) × Marked of.text.now from.cursor marks.until marks.lone.now }
+    ensures { CountedOn of.entry.choice of.entry.text.now from result }
 {
-    let mut walk = Walk::new(text, from.cursor, choice.position, marks);
+    let mut walk = Walk::new(of.text, from.cursor, of.choice.position, marks);
     let mut tokens = from.tokens;
     while let Some(token) = walk.next() {
-        if choice.keeps(token.kind) {
+        if of.choice.keeps(token.kind) {
             tokens += 1;
         }
     }
@@ -124,37 +133,35 @@ fn count_some(text: &[u8], choice: Choice, from: Counted, marks: Marks) -> Count
 // Looks ahead, and counts on. Each walk has its own: the bits stand in its frame, since there is no heap.
 #[cold]
 #[inline(never)]
-fn count_more(text: &[u8], choice: Choice, from: Counted) -> Counted
-    requires { (length text.now ≤ max_query_size) × (choice.position ≤ length text.now) × (from.cursor ≤ length text.now) × (from.tokens ≤ from.cursor) }
-    ensures { CountedOn choice text.now from result }
+fn count_more(of: Chosen, from: Counted) -> Counted
+    requires { (from.cursor ≤ length of.text.now) × (from.tokens ≤ from.cursor) }
+    ensures { CountedOn of.entry.choice of.entry.text.now from result }
 {
     let mut lone = [0; 4096];
-    let until = look_ahead(text, from.cursor, &mut lone);
-    count_some(text, choice, from, Marks { until, lone: &lone })
+    let until = look_ahead(of.text, from.cursor, &mut lone);
+    count_some(of, from, Marks { until, lone: &lone })
 }
 
 // The list's length.
-pub fn count(text: &[u8], choice: Choice) -> usize
-    requires { (length text.now ≤ max_query_size) × (choice.position ≤ length text.now) }
-    ensures { result ≡ length (chosen choice text.now 0) }
+pub fn count(of: Chosen) -> usize
+    ensures { result ≡ length (chosen of.entry.choice of.entry.text.now 0) }
 {
-    let mut at = count_some(text, choice, Counted::default(), Marks::none());
-    while at.cursor < choice.position {
-        at = count_more(text, choice, at);
+    let mut at = count_some(of, Counted::default(), Marks::none());
+    while at.cursor < of.choice.position {
+        at = count_more(of, at);
     }
     at.tokens
 }
 
 // The list's length, or more where it fits all the same: a token has at least one byte, so with room for a token a byte nothing is counted.
-pub fn needed(text: &[u8], choice: Choice, room: usize) -> usize
-    requires { (length text.now ≤ max_query_size) × (choice.position ≤ length text.now) }
-    ensures { let n = length (chosen choice text.now 0) in (n ≤ result) × (room < result → result ≡ n) }
+pub fn needed(of: Chosen, room: usize) -> usize
+    ensures { let n = length (chosen of.entry.choice of.entry.text.now 0) in (n ≤ result) × (room < result → result ≡ n) }
 {
-    let most = text.len();
+    let most = of.text.len();
     if most <= room {
         return most;
     }
-    count(text, choice)
+    count(of)
 }
 
 // How far a list is stored: the bytes of the tokens that are kept before a cursor.
@@ -165,14 +172,14 @@ pub struct Stored {
 }
 
 // Stores on to the end, or until it pays to look ahead.
-fn fill_some(text: &[u8], choice: Choice, list: &mut [u8], from: Stored, marks: Marks) -> Stored
-    requires { (length text.now ≤ max_query_size) × (choice.position ≤ length text.now) × (from.cursor ≤ length text.now) × (from.bytes + length (chosen choice text.now from.cursor) * token_bytes ≤ length list.old) × Marked text.now from.cursor marks.until marks.lone.now }
-    ensures { StoredOn choice text.now from list.old result list.new }
+fn fill_some(of: Chosen, list: &mut [u8], from: Stored, marks: Marks) -> Stored
+    requires { (from.cursor ≤ length of.text.now) × (from.bytes + length (chosen of.choice of.text.now from.cursor) * token_bytes ≤ length list.old) × Marked of.text.now from.cursor marks.until marks.lone.now }
+    ensures { StoredOn of.entry.choice of.entry.text.now from list.old result list.new }
 {
-    let mut walk = Walk::new(text, from.cursor, choice.position, marks);
+    let mut walk = Walk::new(of.text, from.cursor, of.choice.position, marks);
     let mut bytes = from.bytes;
     while let Some(token) = walk.next() {
-        if choice.keeps(token.kind) {
+        if of.choice.keeps(token.kind) {
             bytes = put_token(list, bytes, token.kind, token.start, token.end);
         }
     }
@@ -185,38 +192,37 @@ fn fill_some(text: &[u8], choice: Choice, list: &mut [u8], from: Stored, marks: 
 // Looks ahead, and stores on. Each walk has its own: the bits stand in its frame, since there is no heap.
 #[cold]
 #[inline(never)]
-fn fill_more(text: &[u8], choice: Choice, list: &mut [u8], from: Stored) -> Stored
-    requires { (length text.now ≤ max_query_size) × (choice.position ≤ length text.now) × (from.cursor ≤ length text.now) × (from.bytes + length (chosen choice text.now from.cursor) * token_bytes ≤ length list.old) }
-    ensures { StoredOn choice text.now from list.old result list.new }
+fn fill_more(of: Chosen, list: &mut [u8], from: Stored) -> Stored
+    requires { (from.cursor ≤ length of.text.now) × (from.bytes + length (chosen of.choice of.text.now from.cursor) * token_bytes ≤ length list.old) }
+    ensures { StoredOn of.entry.choice of.entry.text.now from list.old result list.new }
 {
     let mut lone = [0; 4096];
-    let until = look_ahead(text, from.cursor, &mut lone);
-    fill_some(text, choice, list, from, Marks { until, lone: &lone })
+    let until = look_ahead(of.text, from.cursor, &mut lone);
+    fill_some(of, list, from, Marks { until, lone: &lone })
 }
 
 // Stores the list, for which there is room, and answers its length.
-fn fill(text: &[u8], choice: Choice, list: &mut [u8]) -> usize
-    requires { (length text.now ≤ max_query_size) × (choice.position ≤ length text.now) × (length (chosen choice text.now 0) * token_bytes ≤ length list.old) }
-    ensures { let ts = chosen choice text.now 0 in (result ≡ length ts) × (list.new ≡ filled (pack ts) list.old) }
+fn fill(of: Chosen, list: &mut [u8]) -> usize
+    requires { length (chosen of.choice of.text.now 0) * token_bytes ≤ length list.old }
+    ensures { let ts = chosen of.entry.choice of.entry.text.now 0 in (result ≡ length ts) × (list.new ≡ filled (pack ts) list.old) }
 {
-    let mut at = fill_some(text, choice, list, Stored::default(), Marks::none());
-    while at.cursor < choice.position {
-        at = fill_more(text, choice, list, at);
+    let mut at = fill_some(of, list, Stored::default(), Marks::none());
+    while at.cursor < of.choice.position {
+        at = fill_more(of, list, at);
     }
     at.bytes / token_bytes()
 }
 
 // Stores the list, unless the room is too small.
-fn store_chosen(text: &[u8], choice: Choice, list: &mut [u8]) -> Result<usize, Refusal>
-    requires { (length text.now ≤ max_query_size) × (choice.position ≤ length text.now) }
-    ensures { written result list.new ≡ stored (chosen choice text.now 0) Done list.old }
+fn store_chosen(of: Chosen, list: &mut [u8]) -> Result<usize, Refusal>
+    ensures { written result list.new ≡ stored (chosen of.entry.choice of.entry.text.now 0) Done list.old }
 {
     let room = list.len() / token_bytes();
-    let tokens = needed(text, choice, room);
+    let tokens = needed(of, room);
     if room < tokens {
         return Err(Refusal::NoRoom(tokens));
     }
-    Ok(fill(text, choice, list))
+    Ok(fill(of, list))
 }
 
 // The list that `tokenize` gives of a text that is too long.
@@ -237,20 +243,19 @@ fn store(text: &[u8], plan: Plan, list: &mut [u8]) -> Result<usize, Refusal>
 {
     match plan {
         Plan::TooLong => store_too_long(list),
-        Plan::List(choice) => store_chosen(text, choice, list),
+        Plan::List(choice) => store_chosen(Chosen { text, choice }, list),
     }
 }
 
 // The choice, of a text that is not too long, unless the text is not valid.
-fn plan_chosen(text: &[u8], choice: Choice) -> Result<Plan, Refusal>
-    requires { (length text.now ≤ max_query_size) × (choice.position ≤ length text.now) }
-    ensures { Planned result text.now (chosen_plan choice text.now) }
+fn plan_chosen(of: Chosen) -> Result<Plan, Refusal>
+    ensures { Planned result of.entry.text.now (chosen_plan of.entry.choice of.entry.text.now) }
 {
-    let valid = valid_length(text);
-    if valid != text.len() {
+    let valid = valid_length(of.text);
+    if valid != of.text.len() {
         return Err(Refusal::NotUtf8(valid));
     }
-    Ok(Plan::List(choice))
+    Ok(Plan::List(of.choice))
 }
 
 // The whole listing. Lean drops white space and comments.
@@ -269,7 +274,7 @@ pub fn plan_whole(settings: Settings, text: &[u8]) -> Result<Plan, Refusal>
         drop_whitespace: lean,
         drop_comment: lean,
     };
-    plan_chosen(text, choice)
+    plan_chosen(Chosen { text, choice })
 }
 
 // The tokens that start before the position. Lean drops white space and keeps comments.
@@ -288,7 +293,7 @@ pub fn plan_up_to(settings: Settings, text: &[u8]) -> Result<Plan, Refusal>
         drop_whitespace: lean,
         drop_comment: false,
     };
-    plan_chosen(text, choice)
+    plan_chosen(Chosen { text, choice })
 }
 
 pub fn tokenize(settings: Settings, text: &[u8], list: &mut [u8]) -> Result<usize, Refusal>

@@ -10,7 +10,7 @@ ghost use Rattle.lists.specs.Choices.{chosen};
 ghost use Rattle.lists.specs.Plans.{plan_of, stored_by, Follows};
 ghost use Rattle.lists.specs.Picks.{Answered, Fits, Ready, ReadOn, Picks, answer_by, records_from, records_of};
 
-use crate::listing::{Choice, Plan, count, needed};
+use crate::listing::{Chosen, Plan, count, needed};
 use ahead::{LOOK_AFTER, Marks, look_ahead, wasted_by};
 use edges::read;
 use lexer::syntax_kind::SyntaxKind;
@@ -43,7 +43,7 @@ fn fit(text: &[u8], plan: Plan, room: usize) -> Result<Plan, Refusal>
 {
     let tokens = match plan {
         Plan::TooLong => 2,
-        Plan::List(choice) => needed(text, choice, room),
+        Plan::List(choice) => needed(Chosen { text, choice }, room),
     };
     check_room(tokens, room)?;
     Ok(plan)
@@ -89,7 +89,7 @@ pub fn answer_in(text: &[u8], plan: Result<Plan, Refusal>, room: usize) -> Resul
 {
     let plan = plan?;
     let tokens = if let Plan::List(choice) = plan {
-        count(text, choice)
+        count(Chosen { text, choice })
     } else {
         2
     };
@@ -145,13 +145,13 @@ fn read_on(text: &[u8], at: &mut Picking, lone: &mut [u64]) -> Token
 }
 
 // The first token that is kept from the cursor on.
-fn pick_chosen(text: &[u8], choice: Choice, at: &mut Picking, lone: &mut [u64]) -> Option<Token>
-    requires { (length text.now ≤ max_query_size) × (choice.position ≤ length text.now) × Ready text.now at.old lone.old }
-    ensures { Picks text.now at.old at.new lone.new result (λ cursor. records_of (chosen choice text.now cursor)) }
+fn pick_chosen(of: Chosen, at: &mut Picking, lone: &mut [u64]) -> Option<Token>
+    requires { Ready of.text.now at.old lone.old }
+    ensures { Picks of.entry.text.now at.old at.new lone.new result (λ cursor. records_of (chosen of.entry.choice of.entry.text.now cursor)) }
 {
-    while at.cursor < choice.position {
-        let token = read_on(text, at, lone);
-        if choice.keeps(token.kind) {
+    while at.cursor < of.choice.position {
+        let token = read_on(of.text, at, lone);
+        if of.choice.keeps(token.kind) {
             return Some(token);
         }
     }
@@ -183,6 +183,6 @@ pub fn pick(text: &[u8], at: &mut Picking, lone: &mut [u64]) -> Option<Token>
     match at.plan {
         Err(_) => None,
         Ok(Plan::TooLong) => pick_too_long(at),
-        Ok(Plan::List(choice)) => pick_chosen(text, choice, at, lone),
+        Ok(Plan::List(choice)) => pick_chosen(Chosen { text, choice }, at, lone),
     }
 }

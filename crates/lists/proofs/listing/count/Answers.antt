@@ -6,4 +6,4 @@ use Rattle.lists.proofs.listing.count.Goals as goal
 pub returns : goal.returns
 returns c =
     let v = c.loop-at.invariant in
-    omega (arith, v.2, ap length (chosen_stop c.args.choice c.args.text.now c.loop-at.at.cursor v.0 c.loop-at-test.false))
+    omega (arith, v.2, ap length (chosen_stop c.args.of.choice c.args.of.text.now c.loop-at.at.cursor v.0 c.loop-at-test.false))

@@ -7,14 +7,14 @@ pub loop-token-preserved-then-keeps : goal.loop-token-preserved-then-keeps
 loop-token-preserved-then-keeps c =
     let v = c.loop-token.invariant in
     let n = c.in-Some.ensures.steps.token _ _ _ v.0 in
-    let k = ap length (comes_keep c.args.choice c.args.text.now _ c.in-Some.token _ n.1 c.requires.1 n.0 (sym c.keeps.ensures ∙ c.if-keeps.true)) in
+    let k = ap length (comes_keep c.args.of.choice c.args.of.text.now _ c.in-Some.token _ n.1 c.args.of.inside n.0 (sym c.keeps.ensures ∙ c.if-keeps.true)) in
     (c.in-Some.ensures.steps.going _ _ _ v.0, omega (arith, v.1, n.1.moves), omega (arith, k, v.2))
 
 pub loop-token-preserved : goal.loop-token-preserved
 loop-token-preserved c =
     let v = c.loop-token.invariant in
     let n = c.in-Some.ensures.steps.token _ _ _ v.0 in
-    let k = ap length (comes-drop c.args.choice c.args.text.now _ c.in-Some.token _ n.1 c.requires.1 n.0 (sym c.keeps.ensures ∙ c.if-keeps.false)) in
+    let k = ap length (comes-drop c.args.of.choice c.args.of.text.now _ c.in-Some.token _ n.1 c.args.of.inside n.0 (sym c.keeps.ensures ∙ c.if-keeps.false)) in
     (c.in-Some.ensures.steps.going _ _ _ v.0, omega (arith, v.1, n.1.moves), omega (arith, k, v.2))
 
 pub returns : goal.returns

@@ -5,4 +5,4 @@ use Rattle.lists.specs.Choices.{chosen}
 use Rattle.lists.proofs.listing.count_some.Given as goal
 
 abbrev pub invariant-loop-token : goal.invariant-loop-token
-invariant-loop-token l = Goes l.text l.choice.position l.fn.from.cursor l.walk × (l.tokens ≤ l.walk.cursor) × (l.tokens + length (chosen l.choice l.text l.walk.cursor) ≡ l.fn.from.tokens + length (chosen l.choice l.text l.fn.from.cursor))
+invariant-loop-token l = Goes l.of.text.now l.of.choice.position l.fn.from.cursor l.walk × (l.tokens ≤ l.walk.cursor) × (l.tokens + length (chosen l.of.choice l.of.text.now l.walk.cursor) ≡ l.fn.from.tokens + length (chosen l.of.choice l.of.text.now l.fn.from.cursor))

@@ -12,5 +12,5 @@ loop-at-preserved c =
 
 pub returns : goal.returns
 returns c =
-    let f = subst (Packs _ _ _ _ _) (chosen_stop c.args.choice c.args.text.now c.loop-at.at.cursor c.loop-at.invariant.0 c.loop-at-test.false) c.loop-at.invariant.1 in
-    (rw c.token_bytes.ensures (omega (arith, f.count)), filled_all _ _ _ _ c.requires.2 f)
+    let f = subst (Packs _ _ _ _ _) (chosen_stop c.args.of.choice c.args.of.text.now c.loop-at.at.cursor c.loop-at.invariant.0 c.loop-at-test.false) c.loop-at.invariant.1 in
+    (rw c.token_bytes.ensures (omega (arith, f.count)), filled_all _ _ _ _ c.requires f)

@@ -5,7 +5,7 @@ use Rattle.lists.proofs.Packing.{Filled}
 use Rattle.lists.proofs.listing.fill.Given as goal
 
 abbrev pub invariant-loop-at : goal.invariant-loop-at
-invariant-loop-at l = (l.at.cursor ≤ length l.text) × Filled (chosen l.choice l.text 0) l.fn.list l.list l.at.bytes (chosen l.choice l.text l.at.cursor)
+invariant-loop-at l = (l.at.cursor ≤ length l.of.text.now) × Filled (chosen l.of.choice l.of.text.now 0) l.fn.list l.list l.at.bytes (chosen l.of.choice l.of.text.now l.at.cursor)
 
 abbrev pub decreases-loop-at : goal.decreases-loop-at
-decreases-loop-at l = length l.text - l.at.cursor
+decreases-loop-at l = length l.of.text.now - l.at.cursor

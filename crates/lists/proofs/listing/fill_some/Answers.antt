@@ -9,22 +9,22 @@ pub put_token-bytes-requires : goal.put_token-bytes-requires
 put_token-bytes-requires c =
     let v = c.loop-token.invariant in
     let n = c.in-Some.ensures.steps.token _ _ _ v.0 in
-    let k = comes_keep c.args.choice c.args.text.now _ c.in-Some.token _ n.1 c.requires.1 n.0 (sym c.keeps.ensures ∙ c.if-keeps.true) in
-    packs_room _ _ _ _ _ _ _ (subst (Packs _ _ _ _ _) k v.1) c.requires.3
+    let k = comes_keep c.args.of.choice c.args.of.text.now _ c.in-Some.token _ n.1 c.args.of.inside n.0 (sym c.keeps.ensures ∙ c.if-keeps.true) in
+    packs_room _ _ _ _ _ _ _ (subst (Packs _ _ _ _ _) k v.1) c.requires.1
 
 pub loop-token-preserved-then-keeps : goal.loop-token-preserved-then-keeps
 loop-token-preserved-then-keeps c =
     let v = c.loop-token.invariant in
     let n = c.in-Some.ensures.steps.token _ _ _ v.0 in
-    let k = comes_keep c.args.choice c.args.text.now _ c.in-Some.token _ n.1 c.requires.1 n.0 (sym c.keeps.ensures ∙ c.if-keeps.true) in
+    let k = comes_keep c.args.of.choice c.args.of.text.now _ c.in-Some.token _ n.1 c.args.of.inside n.0 (sym c.keeps.ensures ∙ c.if-keeps.true) in
     let p = subst (Packs _ _ _ _ _) k v.1 in
-    (c.in-Some.ensures.steps.going _ _ _ v.0, packs_more _ _ _ _ _ _ _ p (packs_room _ _ _ _ _ _ _ p c.requires.3) _ _ c.put_token-bytes.ensures.0 c.put_token-bytes.ensures.1)
+    (c.in-Some.ensures.steps.going _ _ _ v.0, packs_more _ _ _ _ _ _ _ p (packs_room _ _ _ _ _ _ _ p c.requires.1) _ _ c.put_token-bytes.ensures.0 c.put_token-bytes.ensures.1)
 
 pub loop-token-preserved : goal.loop-token-preserved
 loop-token-preserved c =
     let v = c.loop-token.invariant in
     let n = c.in-Some.ensures.steps.token _ _ _ v.0 in
-    let k = comes-drop c.args.choice c.args.text.now _ c.in-Some.token _ n.1 c.requires.1 n.0 (sym c.keeps.ensures ∙ c.if-keeps.false) in
+    let k = comes-drop c.args.of.choice c.args.of.text.now _ c.in-Some.token _ n.1 c.args.of.inside n.0 (sym c.keeps.ensures ∙ c.if-keeps.false) in
     (c.in-Some.ensures.steps.going _ _ _ v.0, subst (Packs _ _ _ _ _) k v.1)
 
 pub returns : goal.returns

@@ -5,4 +5,4 @@ use Rattle.lists.specs.Walks.{Packs}
 use Rattle.lists.proofs.listing.fill_some.Given as goal
 
 abbrev pub invariant-loop-token : goal.invariant-loop-token
-invariant-loop-token l = Goes l.text l.choice.position l.fn.from.cursor l.walk × Packs l.initial.list l.fn.from.bytes (chosen l.choice l.text l.fn.from.cursor) l.list l.bytes (chosen l.choice l.text l.walk.cursor)
+invariant-loop-token l = Goes l.of.text.now l.of.choice.position l.fn.from.cursor l.walk × Packs l.initial.list l.fn.from.bytes (chosen l.of.choice l.of.text.now l.fn.from.cursor) l.list l.bytes (chosen l.of.choice l.of.text.now l.walk.cursor)

@@ -5,7 +5,7 @@ use Rattle.lists.specs.Picks.{Ready}
 use Rattle.lists.proofs.picks.pick_chosen.Given as goal
 
 abbrev pub invariant-loop-at : goal.invariant-loop-at
-invariant-loop-at l = (l.at.plan ≡ l.initial.at.plan) × (chosen l.choice l.text l.at.cursor ≡ chosen l.choice l.text l.initial.at.cursor) × Ready l.text l.at l.lone × (length l.lone ≡ length l.initial.lone)
+invariant-loop-at l = (l.at.plan ≡ l.initial.at.plan) × (chosen l.of.choice l.of.text.now l.at.cursor ≡ chosen l.of.choice l.of.text.now l.initial.at.cursor) × Ready l.of.text.now l.at l.lone × (length l.lone ≡ length l.initial.lone)
 
 abbrev pub decreases-loop-at : goal.decreases-loop-at
-decreases-loop-at l = length l.text - l.at.cursor
+decreases-loop-at l = length l.of.text.now - l.at.cursor
