@@ -4,6 +4,9 @@
 // bytes that were searched in vain are counted, and now and then one pass over the rest of the text finds out for many `$` at once that they begin no
 // here-document. What the pass finds is a number and some bits, and what is proved of them is only that no `$` is marked wrongly: the table that
 // the pass makes of the tags may hold anything.
+//
+// That a text is within the limit is a clause, here and in the crates above, and no type: a text with that fact would be taken apart again at each call
+// of the crates below, which take any bytes, and each clause would be longer by a field than it is by the fact.
 #![tactic(auto)]
 
 ghost use Rattle.std.specs.Prelude.{◌≡◌, ℕ, List, ◌+◌, ◌<◌, ◌≤◌, true, length, drop, slice_index};
