@@ -328,7 +328,8 @@ pub struct Marks<'a> {
 impl Marks<'_> {
     // Before the first look.
     pub fn none() -> Marks<'static>
-        ensures { (s : List ℕ) (from : ℕ) → Marked s from result.until result.lone.now }
+        ensures nothing { (result.until ≡ 0) × (length result.lone.now ≡ 0) }
+        ensures marked { (s : List ℕ) (from : ℕ) → Marked s from result.until result.lone.now }
     {
         Marks {
             until: 0,

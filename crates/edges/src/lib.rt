@@ -56,7 +56,8 @@ fn is_among(b: u8, low: u64, high: u64) -> bool {
 #[inline(always)]
 pub fn find(text: &[u8], at: usize, shy: bool) -> Rest
     requires { at ≤ length text.now }
-    ensures { Left text.now at result }
+    ensures left { Left text.now at result }
+    ensures base { result.base ≡ at }
 {
     let pays = text.len() - at >= 72
         && (text[at] | text[at + 1]) < 0x80
@@ -78,7 +79,8 @@ pub fn is_long(start: usize, end: usize) -> bool
 
 // What is left after `end`.
 fn left(rest: Rest, end: usize) -> Rest
-    ensures { (s : List ℕ) (start : ℕ) → start < end → Left s start rest → Left s end result }
+    ensures base { result.base ≡ rest.base }
+    ensures left { (s : List ℕ) (start : ℕ) → start < end → Left s start rest → Left s end result }
 {
     let base = rest.base;
     if end < base || end - base >= 63 {
@@ -154,7 +156,8 @@ pub fn read(text: &[u8], start: usize, marks: Marks) -> Found
 // What was read, with the edges that are left of a block.
 #[inline(always)]
 pub fn taken(token: Lexed, rest: Rest) -> Next
-    ensures { (s : List ℕ) (start : ℕ) → start < length s → token ≡ ends_at start (lexeme (after_dot_at s start) (drop start s)) → Left s start rest → Taken s start result }
+    ensures base { result.rest.base ≡ rest.base }
+    ensures taken { (s : List ℕ) (start : ℕ) → start < length s → token ≡ ends_at start (lexeme (after_dot_at s start) (drop start s)) → Left s start rest → Taken s start result }
 {
     Next {
         token,
@@ -166,7 +169,8 @@ pub fn taken(token: Lexed, rest: Rest) -> Next
 #[inline(always)]
 pub fn plain(text: &[u8], start: usize, rest: Rest) -> Option<Next>
     requires { (length text.now ≤ max_query_size) × (start < length text.now) × Left text.now start rest }
-    ensures { IfSome result (λ n. Taken text.now start n) }
+    ensures base { IfSome result (λ n. n.rest.base ≡ rest.base) }
+    ensures taken { IfSome result (λ n. Taken text.now start n) }
 {
     if rest.bits == 0 {
         return None;

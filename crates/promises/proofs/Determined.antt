@@ -59,7 +59,7 @@ use Rattle.saved.proofs.saver as saver
 use Rattle.saved.specs.contracts.saver as saver_says
 use Rattle.giehtamun.proofs as giehtamun
 use Rattle.giehtamun.specs.contracts as giehtamun_says
-use Rattle.std.specs.Prelude.{ℕ, Result, Ok, Err}
+use Rattle.std.specs.Prelude.{ℕ, Result, Ok, Err, length}
 use mathlib.Core.List.{List, []}
 use Rattle.rules.specs.Cases.{part}
 use Rattle.rules.specs.Saved.{Loaded as Files}
@@ -219,6 +219,15 @@ read_dollar κs a r s u v p q = (same p q, refl)
 
 pub read_plainly : DeterminedAs edges_says.read.ended edges.read.Reads.Learnt (λ κs r. r.token)
 read_plainly κs a r s u v p q = (same p q, refl)
+
+-- That there are none before the first look: up to no offset, and no word of bits.
+pub no_marks : DeterminedAs ahead_says.Marks.none.ended ahead.Marks.none.Reads.Learnt (λ κs m. (m.until, length m.lone.now))
+no_marks κs a r s u v p q = (λ i. (same p.nothing.0 q.nothing.0 i, same p.nothing.1 q.nothing.1 i), refl)
+
+-- Where a walk stands and stops, and over which text: the rest no other crate sees.
+pub new_walk : DeterminedAs edges_says.walk.Walk.new.ended edges.walk.Walk.new.Reads.Learnt (λ κs w. (w.text.now, (w.cursor, w.stop)))
+new_walk κs a r s u v p q =
+    (λ i. (same p.going.text q.going.text i, (same p.cursor q.cursor i, same (p.going.still (omega p.cursor)) (q.going.still (omega q.cursor)) i)), refl)
 
 pub is_long : Determined edges_says.is_long.ended edges.is_long.Reads.Learnt
 is_long κs a r s u v p q = (same p q, refl)

@@ -13,8 +13,8 @@ is_told-requires c =
     let end = c.args.rest.base + count_trailing_zeros 64 c.args.rest.bits in
     omega (arith, c.lead_of.ensures, lead_small (get_or c.args.text.now end 0) (omega (arith, c.type_inv.text end)))
 
-pub returns : goal.returns
-returns c =
+pub returns-clause-taken : goal.returns-clause-taken
+returns-clause-taken c =
     let s = c.args.text.now in
     let r = c.args.rest in
     let e = r.base + count_trailing_zeros 64 r.bits in

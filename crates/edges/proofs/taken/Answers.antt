@@ -2,5 +2,5 @@
 use Rattle.lexer.proofs.Ends.{next_lies}
 use Rattle.edges.proofs.taken.Goals as goal
 
-pub returns : goal.returns
-returns c = λ s start h e b. (e, c.left.ensures s start (next_lies s start _ h e).0 b)
+pub returns-clause-taken : goal.returns-clause-taken
+returns-clause-taken c = λ s start h e b. (e, c.left.ensures.left s start (next_lies s start _ h e).0 b)
