@@ -97,7 +97,8 @@ fn mask_some(text: &[u8], copy: &mut [u8], from: usize, marks: Marks) -> usize
     walk.cursor
 }
 
-// Looks ahead, and masks on. Each walk has its own: the bits stand in its frame, since there is no heap.
+// Looks ahead, and masks on. Each walk has its own: masked_anew is an edit of its loop, and one function for all would take a closure that captures
+// the copy, of which nothing is known afterwards.
 #[cold]
 #[inline(never)]
 fn mask_more(text: &[u8], copy: &mut [u8], from: usize) -> usize
