@@ -63,8 +63,8 @@ fn read_some(text: &[u8], from: Reading, marks: Marks) -> Reading
     read_up_to(walk.cursor, tokens, text.len())
 }
 
-// Looks ahead, and reads on. Each walk has its own: read_anew is an edit of its loop, and one function for all would take a closure that captures
-// what is lent, of which nothing is known afterwards.
+// Looks ahead, and reads on. Each walk has its own, and read_anew is an edit of its loop: one function for all four would take a closure, which those
+// that write cannot be (`mask_more` in masking says why).
 #[cold]
 #[inline(never)]
 fn read_more(text: &[u8], from: Reading) -> Reading
