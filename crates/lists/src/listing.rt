@@ -130,8 +130,8 @@ fn count_some(of: Chosen, from: Counted, marks: Marks) -> Counted
     }
 }
 
-// Looks ahead, and counts on. Each of the four walks has its own: one function for all would take a closure, and of a list or a copy that it captures
-// nothing is known afterwards. The edits counted_anew, stored_anew, read_anew and masked_anew are of their loops.
+// Looks ahead, and counts on. Each of the four walks has its own: one function for all would take a closure, and of the bytes of a list or a copy
+// that it captures nothing is known afterwards. The edits counted_anew, stored_anew, read_anew and masked_anew are of their loops.
 #[cold]
 #[inline(never)]
 fn count_more(of: Chosen, from: Counted) -> Counted
@@ -190,7 +190,7 @@ fn fill_some(of: Chosen, list: &mut [u8], from: Stored, marks: Marks) -> Stored
     }
 }
 
-// Looks ahead, and stores on. Each walk has its own, as at `count_more`: of a list that a closure captures nothing is known afterwards.
+// Looks ahead, and stores on. Each walk has its own, as at `count_more`: of the bytes of a list that a closure captures nothing is known afterwards.
 #[cold]
 #[inline(never)]
 fn fill_more(of: Chosen, list: &mut [u8], from: Stored) -> Stored

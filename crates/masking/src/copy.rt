@@ -98,7 +98,7 @@ fn mask_some(text: &[u8], copy: &mut [u8], from: usize, marks: Marks) -> usize
 }
 
 // Looks ahead, and masks on. Each walk has its own, and masked_anew is an edit of its loop: one function for all four would take a closure, and of
-// the copy that it captures nothing is known afterwards (tried: the invariant of the loop in `mask_tokens` does not close).
+// the bytes of the copy that it captures nothing is known afterwards (tried: the invariant of the loop in `mask_tokens` does not close).
 #[cold]
 #[inline(never)]
 fn mask_more(text: &[u8], copy: &mut [u8], from: usize) -> usize
