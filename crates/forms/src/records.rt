@@ -8,7 +8,7 @@ use lists::listing::{Plan, Settings, plan_up_to, plan_whole};
 use lists::picks::{answer_by, begin, no_bits, pick};
 use rules::refusal::Refusal;
 
-// Stores a plan's list from the front on.
+// Stores a plan's list from the front on. The index is counted by hand, since the number of records is what is answered.
 pub fn store_records(
     text: &[u8],
     plan: Result<Plan, Refusal>,
@@ -60,7 +60,7 @@ pub fn records_64(settings: Settings, text: &[u8]) -> [Token; 64]
     list
 }
 
-// The same up to the position.
+// The same up to the position. Each of the two is one definition's: `record_listing`, and `record_listing_up_to`.
 pub fn records_64_up_to(settings: Settings, text: &[u8]) -> [Token; 64]
     ensures { result ≡ (record_listing_up_to settings.mode settings.position text.now no_records).records }
 {

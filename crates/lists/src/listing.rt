@@ -71,7 +71,7 @@ pub struct Choice {
     pub drop_comment: bool,
 }
 
-// What a listing that is not refused is to do, as far as the room does not decide it.
+// What a listing that is not refused is to do, as far as the room does not decide it. No Option of a choice: `TooLong` is a list of two tokens.
 #[derive(Clone, Copy)]
 pub enum Plan {
     // The list that `tokenize` gives of a text that is too long.
@@ -130,7 +130,8 @@ fn count_some(of: Chosen, from: Counted, marks: Marks) -> Counted
     }
 }
 
-// Looks ahead, and counts on. Each walk has its own: the bits stand in its frame, since there is no heap.
+// Looks ahead, and counts on. Each of the four walks has its own: one function for all would take a closure, and of the bytes of a list or a copy
+// that it captures nothing is known afterwards. The edits counted_anew, stored_anew, read_anew and masked_anew are of their loops.
 #[cold]
 #[inline(never)]
 fn count_more(of: Chosen, from: Counted) -> Counted
@@ -189,7 +190,7 @@ fn fill_some(of: Chosen, list: &mut [u8], from: Stored, marks: Marks) -> Stored
     }
 }
 
-// Looks ahead, and stores on. Each walk has its own: the bits stand in its frame, since there is no heap.
+// Looks ahead, and stores on. Each walk has its own, as at `count_more`: of the bytes of a list that a closure captures nothing is known afterwards.
 #[cold]
 #[inline(never)]
 fn fill_more(of: Chosen, list: &mut [u8], from: Stored) -> Stored
@@ -258,7 +259,8 @@ fn plan_chosen(of: Chosen) -> Result<Plan, Refusal>
     Ok(Plan::List(of.choice))
 }
 
-// The whole listing. Lean drops white space and comments.
+// The whole listing. Lean drops white space and comments. No twin of `plan_up_to`: this one is `whole_plan`, that one `up_to_plan`, and they refuse
+// and drop different things.
 pub fn plan_whole(settings: Settings, text: &[u8]) -> Result<Plan, Refusal>
     ensures { Planned result text.now (whole_plan settings.mode text.now) }
 {

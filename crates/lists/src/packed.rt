@@ -17,6 +17,7 @@ pub fn put_u32(list: &mut [u8], at: usize, x: u32) -> usize
     at + 4
 }
 
+// By three numbers and no `Token`: its clause is public and stays, and `store_too_long` stores kinds with no token at hand.
 pub fn put_token(list: &mut [u8], at: usize, kind: u32, start: u32, end: u32) -> usize
     requires { at + token_bytes ≤ length list.old }
     ensures { (result ≡ at + token_bytes) × (list.new ≡ sets list.old at (pack_token (token kind start end))) }

@@ -17,7 +17,8 @@ use lexer::syntax_kind::SyntaxKind;
 use lexer::token::Token;
 use rules::refusal::Refusal;
 
-// How far a list is picked: by which plan, and from where on the next token is looked for. `until` and `wasted` are of the looks ahead.
+// How far a list is picked: by which plan, and from where on the next token is looked for. `until` and `wasted` are of the looks ahead. The cursor
+// counts the two tokens of a long text too, as `records_from` has it: a count beside it would be one number more in every state.
 #[derive(Clone, Copy)]
 pub struct Picking {
     pub plan: Result<Plan, Refusal>,
@@ -36,7 +37,8 @@ fn check_room(tokens: usize, room: usize) -> Result<(), Refusal>
     Ok(())
 }
 
-// The same plan where there is room for its list. A text is lexed here only where the room is not a token a byte.
+// The same plan where there is room for its list. A text is lexed here only where the room is not a token a byte. `Follows`, and `Ready` below, stay
+// clauses: they relate a plan, or bits, to a text that the caller lends again at each call.
 fn fit(text: &[u8], plan: Plan, room: usize) -> Result<Plan, Refusal>
     requires { Follows (Ok plan) text.now }
     ensures { Fits result text.now (outcome (plan_of (Ok plan) text.now) room) room }
@@ -114,7 +116,8 @@ pub fn no_bits() -> [u64; 2048]
     [0; 2048]
 }
 
-// Looks ahead from the cursor on, where that pays.
+// Looks ahead from the cursor on, where that pays. No `Walk`, here and in `read_on`: a list in records is picked one token a call, and a walk's block
+// would have to be kept between calls in `Picking`, whose fields are public.
 fn look_on(text: &[u8], at: &mut Picking, lone: &mut [u64])
     requires { (length text.now ≤ max_query_size) × (at.old.cursor ≤ length text.now) × Ready text.now at.old lone.old }
     ensures { (at.new.plan ≡ at.old.plan) × (at.new.cursor ≡ at.old.cursor) × (at.new.wasted < look_after) × Ready text.now at.new lone.new }

@@ -11,6 +11,7 @@ ghost use Rattle.masking.specs.Walks.{MaskedOn};
 use ahead::{Marks, look_ahead};
 use edges::walk::Walk;
 use lexer::syntax_kind::SyntaxKind;
+use lexer::token::Token;
 use rules::refusal::Refusal;
 use rules::{mask_byte, max_query_size};
 use runs::copy_front;
@@ -26,38 +27,38 @@ fn quote_width(text: &[u8], start: usize) -> usize
 }
 
 // The bytes of the `$tag$` that a token begins with.
-fn tag_width(text: &[u8], start: usize, end: usize) -> usize
-    requires { Span text.now start end }
-    ensures { result ≡ tag_width (bytes_of text.now start end) }
+fn tag_width(text: &[u8], token: Token) -> usize
+    requires { Span text.now token.start token.end }
+    ensures { result ≡ tag_width (bytes_of text.now token.start token.end) }
 {
-    let rest = &text[start + 1..end];
+    let rest = &text[token.start as usize + 1..token.end as usize];
     rest.iter().position(|b| *b == b'$').unwrap_or(rest.len()) + 2
 }
 
 // How many bytes a token of a hiding kind keeps at its front.
 #[tactic(auto, using(crate::proofs::Spans::span_quote, crate::proofs::Kept::front_comment, crate::proofs::Kept::front_open_comment, crate::proofs::Kept::front_here, crate::proofs::Kept::front_quote))]
-fn keeps_front(text: &[u8], kind: u32, start: usize, end: usize) -> usize
-    requires { Hiding kind text.now start end }
-    ensures { result ≡ front kind (bytes_of text.now start end) }
+fn keeps_front(text: &[u8], token: Token) -> usize
+    requires { Hiding token.kind text.now token.start token.end }
+    ensures { result ≡ front token.kind (bytes_of text.now token.start token.end) }
 {
-    match kind {
+    match token.kind {
         SyntaxKind::Comment | SyntaxKind::ErrorMultilineCommentIsNotClosed => 2,
-        SyntaxKind::HereDoc => tag_width(text, start, end),
-        _ => quote_width(text, start),
+        SyntaxKind::HereDoc => tag_width(text, token),
+        _ => quote_width(text, token.start as usize),
     }
 }
 
 // How many at its back.
 #[tactic(auto, using(crate::proofs::Spans::span_quote, crate::proofs::Kept::back_string, crate::proofs::Kept::back_here, crate::proofs::Kept::back_none))]
-fn keeps_back(text: &[u8], kind: u32, start: usize, end: usize) -> usize
-    requires { Hiding kind text.now start end }
-    ensures { result ≡ back kind (bytes_of text.now start end) }
+fn keeps_back(text: &[u8], token: Token) -> usize
+    requires { Hiding token.kind text.now token.start token.end }
+    ensures { result ≡ back token.kind (bytes_of text.now token.start token.end) }
 {
-    match kind {
+    match token.kind {
         // Told without a jump, since comments of both kinds may come in turn.
-        SyntaxKind::Comment => 2 * usize::from(byte_at(text, start + 1) == b'*'),
-        SyntaxKind::StringToken => quote_width(text, start),
-        SyntaxKind::HereDoc => tag_width(text, start, end),
+        SyntaxKind::Comment => 2 * usize::from(byte_at(text, token.start as usize + 1) == b'*'),
+        SyntaxKind::StringToken => quote_width(text, token.start as usize),
+        SyntaxKind::HereDoc => tag_width(text, token),
         _ => 0,
     }
 }
@@ -73,12 +74,12 @@ fn hide(copy: &mut [u8], from: usize, to: usize)
 }
 
 // Hides what a token of a hiding kind hides.
-fn mask_token(text: &[u8], copy: &mut [u8], kind: u32, start: usize, end: usize)
-    requires { Hiding kind text.now start end × (length text.now ≤ length copy.old) }
-    ensures { let bs = bytes_of text.now start end in copy.new ≡ hide (start + front kind bs) (end - back kind bs) copy.old }
+fn mask_token(text: &[u8], copy: &mut [u8], token: Token)
+    requires { Hiding token.kind text.now token.start token.end × (length text.now ≤ length copy.old) }
+    ensures { let bs = bytes_of text.now token.start token.end in copy.new ≡ hide (token.start + front token.kind bs) (token.end - back token.kind bs) copy.old }
 {
-    let from = start + keeps_front(text, kind, start, end);
-    let to = end - keeps_back(text, kind, start, end);
+    let from = token.start as usize + keeps_front(text, token);
+    let to = token.end as usize - keeps_back(text, token);
     hide(copy, from, to);
 }
 
@@ -90,19 +91,14 @@ fn mask_some(text: &[u8], copy: &mut [u8], from: usize, marks: Marks) -> usize
     let mut walk = Walk::new(text, from, text.len(), marks);
     while let Some(token) = walk.next() {
         if hides(token.kind) {
-            mask_token(
-                text,
-                copy,
-                token.kind,
-                token.start as usize,
-                token.end as usize,
-            );
+            mask_token(text, copy, token);
         }
     }
     walk.cursor
 }
 
-// Looks ahead, and masks on. Each walk has its own: the bits stand in its frame, since there is no heap.
+// Looks ahead, and masks on. Each walk has its own, and masked_anew is an edit of its loop: one function for all four would take a closure, and of
+// the bytes of the copy that it captures nothing is known afterwards (tried: the invariant of the loop in `mask_tokens` does not close).
 #[cold]
 #[inline(never)]
 fn mask_more(text: &[u8], copy: &mut [u8], from: usize) -> usize

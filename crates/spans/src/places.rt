@@ -21,7 +21,8 @@ pub struct Position {
     pub column: usize,
 }
 
-// What is counted in a block, told by a byte and the two after it.
+// What is counted in a block, told by a byte and the two after it. No closure tells it: `marked` in specs/Sums has the five marks, and
+// the edits block_with_a_line and tail_after_two are of its cases.
 #[derive(Clone, Copy, PartialEq, Eq, Debug)]
 pub enum Mark {
     // A line end, at the byte that it ends with.
@@ -70,7 +71,7 @@ fn is_marked(mark: Mark, a: u8, b: u8, c: u8) -> bool
 }
 
 // How many there are in the 128 bytes of a block, so that a byte holds it: the compiler adds 16 of these at once. It knows the mark at each
-// call. The two bytes after the block are read too.
+// call. The two bytes after the block are read too, and its index goes into the sums: so `from + 130` here and below, and no array of 130 bytes.
 #[tactic(auto, using(crate::proofs::Sums::sum_start, crate::proofs::Sums::sum_more, crate::proofs::Surplus::byte_bit, crate::proofs::Surplus::bit_most))]
 fn count(text: &[u8], from: usize, mark: Mark) -> u8
     requires { from + 130 ≤ length text.now }

@@ -23,7 +23,7 @@ pub struct First {
 }
 
 // How far a text is read: so many tokens, up to a cursor. The bytes are what stands before a delimiter that was read last, and so lie before the
-// cursor; until one is read they are all of the text.
+// cursor; until one is read they are all of the text. No Option of them: the definition `found` compares them with the cursor.
 #[derive(Clone, Copy)]
 pub struct Reading {
     pub cursor: usize,
@@ -63,7 +63,8 @@ fn read_some(text: &[u8], from: Reading, marks: Marks) -> Reading
     read_up_to(walk.cursor, tokens, text.len())
 }
 
-// Looks ahead, and reads on. Each walk has its own: the bits stand in its frame, since there is no heap.
+// Looks ahead, and reads on. Each walk has its own, and read_anew is an edit of its loop: one function for all four would take a closure, which those
+// that write cannot be (`mask_more` in masking says why).
 #[cold]
 #[inline(never)]
 fn read_more(text: &[u8], from: Reading) -> Reading

@@ -26,4 +26,4 @@ pub returns-in-2 : goal.returns-in-2
 returns-in-2 c =
     ap (λ (n : ℕ). 2 * n) c.from.ensures
     ∙ twice (eqb c.byte_at.result star)
-    ∙ sym (comment c.args.kind c.args.text.now c.args.start c.args.end c.requires c.byte_at.result c.in-2.is c.byte_at.ensures)
+    ∙ sym (comment c.args.token.kind c.args.text.now c.args.token.start c.args.token.end c.requires c.byte_at.result c.in-2.is c.byte_at.ensures)

@@ -23,7 +23,7 @@ pub returns : goal.returns
 unfolding tag_width
 returns c =
     let s = c.args.text.now in
-    let rest = take (c.args.end - (c.args.start + 1)) (drop (c.args.start + 1) s) in
+    let rest = take (c.args.token.end - (c.args.token.start + 1)) (drop (c.args.token.start + 1) s) in
     let found = IsFirst-from_position _ _ c.position.result (λ b. b ≡ dollar) (λ b. b ≢ dollar) c.position.ensures.ran (YieldsList-from_slice rest c.iter.ensures.rest) (λ x q k. search (rules, tests)) (λ x q k. search (rules, tests)) in
     let n = index_from_first before_dollar (λ b. b ≡ dollar) (λ b. b ≢ dollar) none hit miss rest c.position.result found in
-    omega (arith, n, c.unwrap_or.ensures, ap before_dollar (span_rest s c.args.start c.args.end c.requires))
+    omega (arith, n, c.unwrap_or.ensures, ap before_dollar (span_rest s c.args.token.start c.args.token.end c.requires))
