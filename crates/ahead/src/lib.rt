@@ -325,9 +325,9 @@ pub struct Marks<'a> {
     pub lone: &'a [u64],
 }
 
-impl Marks<'_> {
+impl Marks<'static> {
     // Before the first look.
-    pub fn none() -> Marks<'static>
+    pub fn none() -> Self
         ensures nothing { (result.until ≡ 0) × (length result.lone.now ≡ 0) }
         ensures marked { (s : List ℕ) (from : ℕ) → Marked s from result.until result.lone.now }
     {
@@ -336,7 +336,9 @@ impl Marks<'_> {
             lone: &[],
         }
     }
+}
 
+impl Marks<'_> {
     fn has(self, at: usize) -> bool
         ensures { result ≡ marked self.entry.until self.entry.lone.now at }
     {

@@ -2,6 +2,7 @@
 -- `ended` and `Learnt` are the toolchain's own for each function: how its parameters end, and what its contract tells a caller.
 -- Every public function of the libraries is here but those that docs/PROMISES.md names: some leave a choice that no answer shows.
 -- Assumes nothing.
+use base.Fml.{Lft}
 use mathlib.Core.Path.{◌≡◌, refl, sym, ap, ◌∙◌}
 use Rattle.rules.proofs as rules
 use Rattle.rules.specs.contracts as rules_says
@@ -26,6 +27,7 @@ use Rattle.blocks.proofs as blocks
 use Rattle.blocks.specs.contracts as blocks_says
 use Rattle.ahead.proofs as ahead
 use Rattle.ahead.specs.contracts as ahead_says
+use Rattle.ahead.specs.declared.Marks.{Marks}
 use Rattle.edges.proofs as edges
 use Rattle.edges.specs.contracts as edges_says
 use Rattle.lists.proofs.listing as listing
@@ -61,6 +63,7 @@ use Rattle.giehtamun.proofs as giehtamun
 use Rattle.giehtamun.specs.contracts as giehtamun_says
 use Rattle.std.specs.Prelude.{ℕ, Result, Ok, Err, length}
 use mathlib.Core.List.{List, []}
+use native.Mathlib.Omega.{arith}
 use Rattle.rules.specs.Cases.{part}
 use Rattle.rules.specs.Saved.{Loaded as Files}
 use Rattle.rules.specs.declared.refusal.Refusal.{Refusal}
@@ -220,14 +223,14 @@ read_dollar κs a r s u v p q = (same p q, refl)
 pub read_plainly : DeterminedAs edges_says.read.ended edges.read.Reads.Learnt (λ κs r. r.token)
 read_plainly κs a r s u v p q = (same p q, refl)
 
--- That there are none before the first look: up to no offset, and no word of bits.
-pub no_marks : DeterminedAs ahead_says.Marks.none.ended ahead.Marks.none.Reads.Learnt (λ κs m. (m.until, length m.lone.now))
-no_marks κs a r s u v p q = (λ i. (same p.nothing.0 q.nothing.0 i, same p.nothing.1 q.nothing.1 i), refl)
+-- That there are none before the first look: up to no offset, and no word of bits. Nothing is lent or taken, so the results alone are spoken of.
+pub no_marks : (κs : Lft × Unit) (r s : Marks) → ahead.Marks.none.Reads.Learnt κs tt r tt → ahead.Marks.none.Reads.Learnt κs tt s tt → (r.until ≡ s.until) × (length r.lone.now ≡ length s.lone.now)
+no_marks κs r s p q = (same p.0.0 q.0.0, same p.0.1 q.0.1)
 
 -- Where a walk stands and stops, and over which text: the rest no other crate sees.
-pub new_walk : DeterminedAs edges_says.walk.Walk.new.ended edges.walk.Walk.new.Reads.Learnt (λ κs w. (w.text.now, (w.cursor, w.stop)))
+pub new_walk : DeterminedAs edges_says.walk.Walk.new.ended edges.walk.Walk.new.Reads.Learnt {S = λ κs. List ℕ × (ℕ × ℕ)} (λ κs w. (w.text.now, (w.cursor, w.stop)))
 new_walk κs a r s u v p q =
-    (λ i. (same p.going.text q.going.text i, (same p.cursor q.cursor i, same (p.going.still (omega p.cursor)) (q.going.still (omega q.cursor)) i)), refl)
+    (λ i. (same p.0.text q.0.text i, (same p.1 q.1 i, same (p.0.still (omega (arith, p.1))) (q.0.still (omega (arith, q.1))) i)), refl)
 
 pub is_long : Determined edges_says.is_long.ended edges.is_long.Reads.Learnt
 is_long κs a r s u v p q = (same p q, refl)
