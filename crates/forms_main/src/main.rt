@@ -13,7 +13,7 @@ use rules::refusal::Refusal;
 use rules::{TOKEN_BYTES, token_bytes};
 use std::io;
 
-// The room of 64 tokens.
+// The room of 64 tokens: an array, and its length beside it, since there is no heap, as in the library.
 const SPACE: usize = 64 * TOKEN_BYTES;
 
 fn space() -> [u8; SPACE]
@@ -26,8 +26,7 @@ fn space() -> [u8; SPACE]
 fn pack_records(records: [Token; 64], list: &mut [u8])
     requires { 64 * token_bytes ≤ length list.old }
 {
-    for i in 0..64 {
-        let token = records[i];
+    for (i, token) in records.iter().enumerate() {
         put_token(list, i * token_bytes(), token.kind, token.start, token.end);
     }
 }

@@ -20,6 +20,7 @@ const TEXT_SPACE: usize = MOST_BYTES + 1;
 // Room for a token a byte.
 const LIST_SPACE: usize = MOST_BYTES * TOKEN_BYTES;
 
+// As replay has it: two programs, with no crate of theirs in common.
 fn zeros<const N: usize>() -> [u8; N]
     ensures { N ≡ length result }
 {
@@ -35,11 +36,13 @@ fn read_some<R: Read>(input: &mut R, part: &mut [u8]) -> Option<usize>
 }
 
 // Reads until the text is full or the input ends: a pipe gives its bytes in pieces. It answers nothing where a read fails.
+// As replay's `read_full`, of which less is said: two programs, with no crate of theirs in common.
 fn read_text<R: Read>(input: &mut R, text: &mut [u8]) -> Option<usize>
     ensures bound { count_of result ≤ length text.new }
     ensures bytes { ReadText (R.remaining input.old) (R.remaining input.new) result text.new }
 {
     let mut n = 0;
+    // A turn goes on by what the read gave.
     while n < text.len() {
         let more = read_some(input, &mut text[n..])?;
         if more == 0 {
@@ -53,11 +56,9 @@ fn read_text<R: Read>(input: &mut R, text: &mut [u8]) -> Option<usize>
 fn print_tokens(rt: &impl Print, list: &[u8], tokens: usize) -> io::Result<()>
     requires { tokens * token_bytes ≤ length list.now }
 {
-    let mut at = 0;
-    for _ in 0..tokens {
-        let token = get_token(list, at);
+    for i in 0..tokens {
+        let token = get_token(list, i * token_bytes());
         println!(rt; "{token}")?;
-        at += token_bytes();
     }
     Ok(())
 }
@@ -71,6 +72,7 @@ fn print_refusal(rt: &impl Print, refusal: Refusal) -> io::Result<()> {
 }
 
 fn print_list(rt: &impl Print, text: &[u8]) -> io::Result<()> {
+    // An array, and its length beside it: no heap, as in the library. So with the text in `main`.
     let mut list = zeros::<LIST_SPACE>();
     match tokenize(Settings::new(), text, &mut list) {
         Ok(tokens) => {

@@ -25,6 +25,7 @@ fn agrees(text: &[u8], tokens: usize, list: &[u8]) -> bool
     requires { length list.now ≡ tokens * token_bytes }
     ensures { result ≡ true → list.now ≡ pack (whole_list full text.now) }
 {
+    // An array, and its length beside it: no heap, as in the library.
     let mut own = [0u8; OWN_SPACE];
     match tokenize(Settings::new(), text, &mut own) {
         Ok(stored) => (stored == tokens) & own.starts_with(list),

@@ -16,6 +16,7 @@ use std::rt::Files;
 // More than the file has, so that its end is seen.
 const SPACE: usize = 524288;
 
+// As lister has it: two programs, with no crate of theirs in common.
 fn zeros<const N: usize>() -> [u8; N]
     ensures { N ≡ length result }
 {
@@ -40,15 +41,15 @@ fn print_result(
 }
 
 fn replay(rt: &impl Print, file: &[u8]) -> io::Result<()> {
-    let mut at = 0;
+    let mut rest = file;
     let mut texts = 0;
     let mut tokens = 0;
     let mut differences = 0;
-    while at < file.len() {
-        let Some(case) = read_case(&file[at..]) else {
+    while !rest.is_empty() {
+        let Some(case) = read_case(rest) else {
             return print_damaged(rt, texts);
         };
-        at += case.size;
+        rest = &rest[case.size..];
         texts += 1;
         tokens += case.tokens;
         if !case.agrees {
@@ -62,10 +63,12 @@ fn replay(rt: &impl Print, file: &[u8]) -> io::Result<()> {
 }
 
 // Reads until the space is full or the input ends, and answers how many bytes came. It answers nothing where a read fails.
+// As lister's `read_text`, of which more is said: two programs, with no crate of theirs in common.
 fn read_full(input: &mut impl Read, space: &mut [u8]) -> Option<usize>
     ensures { IfSome result (λ n. n ≤ length space.new) }
 {
     let mut n = 0;
+    // A turn goes on by what the read gave.
     while n < space.len() {
         let more = input.read(&mut space[n..]).ok()?;
         if more == 0 {
@@ -92,6 +95,7 @@ fn read_file(rt: &impl Files, space: &mut [u8]) -> Option<usize>
 }
 
 fn main(rt: HostRuntime) -> io::Result<()> {
+    // An array, and its length beside it: no heap, as in the library.
     let mut file = zeros::<SPACE>();
     let Some(n) = read_file(&rt, &mut file) else {
         return print_damaged(&rt, 0);

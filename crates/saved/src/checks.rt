@@ -45,13 +45,11 @@ pub fn list_fits(list: &[u8], tokens: usize, size: u32, flag: u32) -> bool
     ensures { result ≡ accepted size (unpack tokens list.now) flag }
 {
     let mut fits = true;
-    let mut at = 0;
     let mut end = 0;
-    for _ in 0..tokens {
-        let token = get_token(list, at);
+    for i in 0..tokens {
+        let token = get_token(list, i * token_bytes());
         fits = fits & goes_on(size, end, token);
         end = token.end;
-        at += token_bytes();
     }
     is_accepted(fits, size, end, flag)
 }
@@ -62,13 +60,11 @@ pub fn records_fit(file: &[u8], from: usize, records: usize, size: u32, flag: u3
     ensures { result ≡ accepted size (tokens_in end_bytes records 0 (drop from file.now)) flag }
 {
     let mut fits = true;
-    let mut at = from;
     let mut end = 0;
-    for _ in 0..records {
-        let token = get_record(file, at, end);
+    for i in 0..records {
+        let token = get_record(file, from + i * RECORD_BYTES, end);
         fits = fits & goes_on(size, end, token);
         end = token.end;
-        at += RECORD_BYTES;
     }
     is_accepted(fits, size, end, flag)
 }

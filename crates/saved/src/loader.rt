@@ -75,14 +75,11 @@ fn put_tokens(file: &[u8], from: usize, records: usize, list: &mut [u8])
     requires { (from + records * record_bytes end_bytes ≤ length file.now) × (records * token_bytes ≤ length list.old) }
     ensures { list.new ≡ filled (pack (tokens_in end_bytes records 0 (drop from file.now))) list.old }
 {
-    let mut to = 0;
-    let mut at = from;
     let mut end = 0;
-    for _ in 0..records {
-        let token = get_record(file, at, end);
-        to = put_token(list, to, token.kind, token.start, token.end);
+    for i in 0..records {
+        let token = get_record(file, from + i * RECORD_BYTES, end);
+        put_token(list, i * token_bytes(), token.kind, token.start, token.end);
         end = token.end;
-        at += RECORD_BYTES;
     }
 }
 

@@ -30,14 +30,11 @@ fn put_records(list: &[u8], tokens: usize, file: &mut [u8], from: usize) -> usiz
     requires { (tokens * token_bytes ≤ length list.now) × (from + tokens * record_bytes end_bytes ≤ length file.old) }
     ensures { (result ≡ from + tokens * record_bytes end_bytes) × (file.new ≡ sets file.old from (records_of end_bytes (unpack tokens list.now))) }
 {
-    let mut to = from;
-    let mut at = 0;
-    for _ in 0..tokens {
-        let token = get_token(list, at);
-        to = put_record(file, to, token.kind, token.end);
-        at += token_bytes();
+    for i in 0..tokens {
+        let token = get_token(list, i * token_bytes());
+        put_record(file, from + i * RECORD_BYTES, token.kind, token.end);
     }
-    to
+    from + tokens * RECORD_BYTES
 }
 
 // The whole file, for which there is room.
