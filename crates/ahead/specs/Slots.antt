@@ -2,7 +2,6 @@
 use Rattle.std.specs.Prelude.{◌≡◌, ℕ, zero, suc, ◌+◌, ◌*◌, ◌/◌, ◌%◌, ◌^◌, ◌<◌, ◌≤◌, Bool, true, false, List, [], ◌∷◌, length, drop, ◌==◌, slice_index, Option, MatchOption}
 use Rattle.rules.specs.Characters.{dollar}
 use Rattle.rules.specs.Dollars.{tag_byte}
-use Rattle.ahead.specs.declared.Tags.{Tags}
 
 -- A hash is looked for first at one of these, and then at up to 63 that follow.
 abbrev pub slots : ℕ
@@ -66,7 +65,3 @@ slot_at s table at = slot_from table (drop (at + 1) s)
 -- No `$` from an offset on, before another, stands beyond what is noted for its slot.
 pub record Seen (s : List ℕ) (from : ℕ) (table last : List ℕ) (to : ℕ) : Type 0 where
   pub seen : (at : ℕ) → from ≤ at → at < to → slice_index s at ≡ dollar → slot_at s table at < length last → at ≤ slice_index last (slot_at s table at)
-
--- A table of its size, and what is noted for all of a text.
-abbrev pub Holds : Tags → Type 0
-Holds t = (length t.table.now ≡ table_size) × (length t.last.now ≡ filter_at) × Seen t.text.now t.from t.table.now t.last.now (length t.text.now)

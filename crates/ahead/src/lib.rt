@@ -9,12 +9,13 @@
 // of the crates below, which take any bytes, and each clause would be longer by a field than it is by the fact.
 #![tactic(auto)]
 
+ghost use Rattle.std.proofs.Props.{props};
 ghost use Rattle.std.specs.Prelude.{◌≡◌, ℕ, List, ◌+◌, ◌<◌, ◌≤◌, true, length, drop, slice_index};
 ghost use Rattle.rules.specs.Dollars.{tag_byte};
 ghost use Rattle.rules.specs.Limits.{max_query_size};
 ghost use Rattle.rules.specs.Characters.{dollar};
 ghost use Rattle.lexer.specs.HereDocs.{TagEnd};
-ghost use Rattle.ahead.specs.Slots.{slots, filter_at, key_at, table_size, mixed, hash_from, start_of, word_of, may_hold, probed, slot_of, slot_from, IsPlace, Seen, Holds};
+ghost use Rattle.ahead.specs.Slots.{slots, filter_at, key_at, mixed, hash_from, start_of, word_of, may_hold, probed, slot_of, slot_from, IsPlace, Seen};
 ghost use Rattle.ahead.specs.Marks.{Lone, LoneWord, LoneWords, LoneUntil, marked, Marked, Lexes, wasted_by};
 
 use lexer::bytes::is_tag_byte;
@@ -33,6 +34,12 @@ const PLACES: usize = 81_984;
 const KEYS: usize = 114_752;
 
 const TABLE: usize = 114_754;
+
+// Hashes, bits and keys in one array: a struct of three by value would be moved through the stack.
+type Table = [u32; TABLE];
+
+// What is noted of the slot at each place.
+type Last = [u32; PLACES];
 
 // One byte more of a hash. Of the old one the lower half is multiplied and the upper half added, so nothing wraps and nothing is lost.
 fn mix(k: u32, h: u64, b: u8) -> u64
@@ -87,16 +94,15 @@ fn word_of(h: u64) -> usize
     PLACES + (h % 0x1_0000_0000 / 0x2_0000) as usize
 }
 
-fn may_hold(table: &[u32], h: u64) -> bool
-    requires { length table.now ≡ table_size }
+fn may_hold(table: &Table, h: u64) -> bool
     ensures { result ≡ may_hold table.now h }
 {
     (table[word_of(h)] >> (h / 0x1000 % 32)) % 2 == 1
 }
 
 // Which of 64 places holds a number. An empty one ends the search.
-fn probe(table: &[u32], f: u32, at: usize) -> Option<usize>
-    requires { (length table.now ≡ table_size) × (at < slots) }
+fn probe(table: &Table, f: u32, at: usize) -> Option<usize>
+    requires { at < slots }
     ensures { IsPlace result (probed table.now f at 64) }
 {
     for i in at..at + 64 {
@@ -112,8 +118,7 @@ fn probe(table: &[u32], f: u32, at: usize) -> Option<usize>
 }
 
 // The slot of a hash: where its upper half stands.
-fn slot_of(table: &[u32], h: u64) -> Option<usize>
-    requires { length table.now ≡ table_size }
+fn slot_of(table: &Table, h: u64) -> Option<usize>
     ensures { IsPlace result (slot_of table.now h) }
 {
     if !may_hold(table, h) {
@@ -129,8 +134,8 @@ struct Key {
     end: usize,
 }
 
-fn key_at(text: &[u8], at: usize, table: &[u32]) -> Key
-    requires { (at ≤ length text.now) × (length table.now ≡ table_size) }
+fn key_at(text: &[u8], at: usize, table: &Table) -> Key
+    requires { at ≤ length text.now }
     ensures { IsPlace result.slot (slot_from table.now (drop at text.now)) × TagEnd text.now at result.end }
 {
     let hashed = hash_at(text, at, table[KEYS], table[KEYS + 1]);
@@ -148,8 +153,8 @@ enum Placed {
     New,
 }
 
-fn put(table: &mut [u32], f: u32, at: usize) -> Placed
-    requires { (length table.old ≡ table_size) × (at < slots) }
+fn put(table: &mut Table, f: u32, at: usize) -> Placed
+    requires { at < slots }
 {
     for i in at..at + 64 {
         let x = table[i];
@@ -165,17 +170,15 @@ fn put(table: &mut [u32], f: u32, at: usize) -> Placed
 }
 
 // The same for a hash, which is marked.
-fn put_hash(table: &mut [u32], h: u64) -> Placed
-    requires { length table.old ≡ table_size }
-{
+fn put_hash(table: &mut Table, h: u64) -> Placed {
     let w = word_of(h);
     table[w] |= 1 << (h / 0x1000 % 32);
     put(table, (h / 0x1_0000_0000) as u32, start_of(h))
 }
 
 // Puts the tags from an offset on into the table, 49,152 of them at most, and none from 1,048,576 bytes further on.
-fn collect(text: &[u8], from: usize, table: &mut [u32])
-    requires { (length table.old ≡ table_size) × (from ≤ length text.now) }
+fn collect(text: &[u8], from: usize, table: &mut Table)
+    requires { from ≤ length text.now }
 {
     let mut free: usize = 49152;
     let mut j = from;
@@ -196,8 +199,8 @@ fn collect(text: &[u8], from: usize, table: &mut [u32])
 }
 
 // Notes for each slot where its tag is last seen after a `$`.
-fn note_last(text: &[u8], from: usize, table: &[u32], last: &mut [u32])
-    requires { (length table.now ≡ table_size) × (length last.old ≡ filter_at) × (length text.now ≤ max_query_size) }
+fn note_last(text: &[u8], from: usize, table: &Table, last: &mut Last)
+    requires { length text.now ≤ max_query_size }
     ensures { Seen text.now from table.now last.new (length text.now) }
 {
     let mut j = from;
@@ -219,14 +222,16 @@ fn note_last(text: &[u8], from: usize, table: &[u32], last: &mut [u32])
 struct Tags<'a> {
     text: &'a [u8],
     from: usize,
-    table: &'a [u32],
-    last: &'a [u32],
+    table: &'a Table,
+    last: &'a Last,
+    ghost noted: { length last.now ≡ filter_at },
+    ghost seen: { Seen text.now from table.now last.now (length text.now) } by { Prim.hlevel props },
 }
 
 impl Tags<'_> {
     // True only if the `$` at `at` begins no here-document: its tag is not seen after it.
     fn is_lone(self, at: usize) -> bool
-        requires { Holds self × (self.from ≤ at) }
+        requires { self.from ≤ at }
         ensures { result ≡ true → Lone self.entry.text.now at }
     {
         if byte_at(self.text, at) != b'$' {
@@ -244,7 +249,7 @@ impl Tags<'_> {
 
     // Up to where no `$` begins a here-document.
     fn lone_until(self) -> usize
-        requires { Holds self × (self.from ≤ length self.text.now) }
+        requires { self.from ≤ length self.text.now }
         ensures { let s = self.entry.text.now in LoneUntil s self.entry.from result × (self.entry.from ≤ result) × (result ≤ length s) }
     {
         for i in self.from..self.text.len() {
@@ -257,7 +262,7 @@ impl Tags<'_> {
 
     // The bits of 64 offsets.
     fn word_at(self, at: usize) -> u64
-        requires { Holds self × (self.from ≤ at) × (at ≤ length self.text.now) }
+        requires { (self.from ≤ at) × (at ≤ length self.text.now) }
         ensures { LoneWord self.entry.text.now at result }
     {
         let mut word: u64 = 0;
@@ -269,7 +274,7 @@ impl Tags<'_> {
 
     // The words of the window at `at`; those past the text's end are 0.
     fn fill_bits(self, at: usize, lone: &mut [u64])
-        requires { Holds self × (self.from ≤ at) × (at ≤ length self.text.now) }
+        requires { (self.from ≤ at) × (at ≤ length self.text.now) }
         ensures { LoneWords self.entry.text.now at lone.new (length lone.new) }
     {
         for m in 0..lone.len() {

@@ -14,6 +14,6 @@ returns-in-Some c e d =
     let t = c.args.self in
     let z = sym c.byte_at-2.ensures ∙ c.if-byte_at-ne36-2.false in
     let p = subst (λ (o : Option ℕ). IsPlace o (slot_from t.table.now (drop (c.args.at + 1) t.text.now))) c.in-Some.is c.key_at-key.ensures.0 in
-    not_again t.text.now c.args.at c.key_at-key.result.end c.key_at-key.ensures.1 d z t.from t.table.now t.last.now c.requires.0.2 c.requires.1
-    (omega (arith, p.0, p.1, c.requires.0.1))
+    not_again t.text.now c.args.at c.key_at-key.result.end c.key_at-key.ensures.1 d z t.from t.table.now t.last.now t.seen c.requires
+    (omega (arith, p.0, p.1, t.noted))
     (rw p.0 at (leb-true (get_or t.last.now c.in-Some.slot 0) c.key_at-key.result.end e))
