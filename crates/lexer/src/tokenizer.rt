@@ -42,32 +42,25 @@ pub fn next_token(text: &[u8], start: usize) -> Lexed
     if text.len() - start < 4 {
         return last_token(text, start);
     }
-    let k = first_byte_kind(text[start]);
-    if k == SyntaxKind::BareWord {
-        return Lexed::new(SyntaxKind::BareWord, read_bare_word(text, start));
-    }
-    if k == SyntaxKind::Whitespace {
-        if is_short_space(text, start) {
-            return Lexed::new(SyntaxKind::Whitespace, start + 1);
+    match first_byte_kind(text[start]) {
+        SyntaxKind::BareWord => Lexed::new(SyntaxKind::BareWord, read_bare_word(text, start)),
+        SyntaxKind::Whitespace => {
+            if is_short_space(text, start) {
+                return Lexed::new(SyntaxKind::Whitespace, start + 1);
+            }
+            Lexed::new(SyntaxKind::Whitespace, read_whitespace(text, start))
         }
-        return Lexed::new(SyntaxKind::Whitespace, read_whitespace(text, start));
+        SyntaxKind::Number => read_number(text, start),
+        SyntaxKind::NoToken => match other_len(text, start) {
+            Some(n) => Lexed::new(SyntaxKind::ErrorToken, start + n),
+            None => read_other(text, start),
+        },
+        kind if kind < 0x80 => Lexed::new(kind, start + 1),
+        more => match fast_operator(text, start, more - 0x80) {
+            Some(l) => l,
+            None => read_longer(text, start, more - 0x80),
+        },
     }
-    if k == SyntaxKind::Number {
-        return read_number(text, start);
-    }
-    if k == SyntaxKind::NoToken {
-        if let Some(n) = other_len(text, start) {
-            return Lexed::new(SyntaxKind::ErrorToken, start + n);
-        }
-        return read_other(text, start);
-    }
-    if k < 0x80 {
-        return Lexed::new(k, start + 1);
-    }
-    if let Some(l) = fast_operator(text, start, k - 0x80) {
-        return l;
-    }
-    read_longer(text, start, k - 0x80)
 }
 
 // The token at `start` near the text's end.
@@ -75,23 +68,14 @@ fn last_token(text: &[u8], start: usize) -> Lexed
     requires { start < length text.now }
     ensures { result ≡ ends_at start (lexeme (after_dot_at text.now start) (drop start text.now)) }
 {
-    let k = first_byte_kind(text[start]);
-    if k == SyntaxKind::BareWord {
-        return Lexed::new(SyntaxKind::BareWord, read_bare_word(text, start));
+    match first_byte_kind(text[start]) {
+        SyntaxKind::BareWord => Lexed::new(SyntaxKind::BareWord, read_bare_word(text, start)),
+        SyntaxKind::Whitespace => Lexed::new(SyntaxKind::Whitespace, read_whitespace(text, start)),
+        SyntaxKind::Number => read_number(text, start),
+        SyntaxKind::NoToken => read_other(text, start),
+        kind if kind < 0x80 => Lexed::new(kind, start + 1),
+        more => read_longer(text, start, more - 0x80),
     }
-    if k == SyntaxKind::Whitespace {
-        return Lexed::new(SyntaxKind::Whitespace, read_whitespace(text, start));
-    }
-    if k == SyntaxKind::Number {
-        return read_number(text, start);
-    }
-    if k == SyntaxKind::NoToken {
-        return read_other(text, start);
-    }
-    if k < 0x80 {
-        return Lexed::new(k, start + 1);
-    }
-    read_longer(text, start, k - 0x80)
 }
 
 // A token that starts with a character past ASCII, or with a byte that begins none.
