@@ -277,8 +277,8 @@ impl Tags<'_> {
         requires { (self.from ≤ at) × (at ≤ length self.text.now) }
         ensures { LoneWords self.entry.text.now at lone.new (length lone.new) }
     {
-        for m in 0..lone.len() {
-            lone[m] = if (self.text.len() - at) / 64 < m {
+        for (m, word) in lone.iter_mut().enumerate() {
+            *word = if (self.text.len() - at) / 64 < m {
                 0
             } else {
                 self.word_at(at + m * 64)
@@ -323,7 +323,8 @@ pub fn look_ahead(text: &[u8], from: usize, lone: &mut [u64]) -> usize
     until
 }
 
-// What the last look ahead found out: no `$` before `until` begins a here-document, and none from there on whose bit is set.
+// What the last look ahead found out: no `$` before `until` begins a here-document, and none from there on whose bit is set. That they are marks of a text
+// is a clause of those who take both, and a ghost field of `edges::walk::Walk`, which has both: a struct for the clauses alone would be made anew at each token.
 #[derive(Clone, Copy)]
 pub struct Marks<'a> {
     pub until: usize,

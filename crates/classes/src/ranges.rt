@@ -20,7 +20,8 @@ fn go_on(index: &[u32], i: usize, by: usize, c: u32) -> usize
     i
 }
 
-// The eight bytes of a row in all: four sums of two in lanes of 16 bits, none of which runs over, and then the sum of these.
+// The eight bytes of a row in all: four sums of two in lanes of 16 bits, none of which runs over, and then the sum of these. Four steps, where a loop over the
+// bytes has eight that wait for one another.
 fn row_sum(row: u64) -> u32
     ensures { result ≡ byte_sum 8 row }
 {

@@ -18,7 +18,7 @@ use lexer::syntax_kind::SyntaxKind;
 use lexer::token::Lexed;
 use lexer::tokenizer::{next_token, read_string};
 
-// What each byte tells, as specs/Leads.antt has it.
+// What each byte tells, as specs/Leads.antt has it: one number, so that one load tells all of it.
 static LEADS: [u16; 256] = [
     0x002F, 0x002F, 0x002F, 0x002F, 0x002F, 0x002F, 0x002F, 0x002F, 0x002F, 0x0401, 0x0401, 0x0401,
     0x0401, 0x0401, 0x002F, 0x002F, 0x002F, 0x002F, 0x002F, 0x002F, 0x002F, 0x002F, 0x002F, 0x002F,
@@ -44,7 +44,7 @@ static LEADS: [u16; 256] = [
     0x9FC0, 0x9FC0, 0x9FC0, 0x9FC0,
 ];
 
-// Whether the byte is past ASCII, or its bit is set: in `low` by its number, or from 64 on in `high` by its number less 64.
+// A set of bytes as bits, since a match of so many becomes a chain of jumps. Whether the byte is past ASCII, or its bit is set: in `low` by its number, or from 64 on in `high` by its number less 64.
 fn is_among(b: u8, low: u64, high: u64) -> bool {
     let mask = if b >= 64 { high } else { low };
     (b >= 0x80) | ((mask >> (b % 64)) % 2 == 1)

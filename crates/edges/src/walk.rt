@@ -9,7 +9,8 @@ use crate::{Next, Rest, find, is_long, plain, read, taken};
 use ahead::{LOOK_AFTER, Marks, wasted_by};
 use lexer::token::Token;
 
-// It stands at the cursor, and stops at `stop`, which comes down to 0 where so much was searched in vain that it pays to look ahead.
+// It stands at the cursor, and stops at `stop`, which comes down to 0 where so much was searched in vain that it pays to look ahead: one number for both,
+// since a flag beside it would be one test more for each token.
 #[derive(Drop)]
 pub struct Walk<'a> {
     pub text: &'a [u8],

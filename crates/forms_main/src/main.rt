@@ -56,7 +56,7 @@ fn up_to_agrees(settings: Settings, text: &[u8]) -> bool {
     )
 }
 
-// As a number and a value.
+// As a number and a value, which are compared as they stand in the program's lines.
 fn numbers(answer: Result<usize, Refusal>) -> (u32, usize) {
     match answer {
         Ok(value) => (0, value),

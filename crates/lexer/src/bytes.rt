@@ -124,7 +124,8 @@ pub(crate) fn only(a: u8) -> Class
     }
 }
 
-// Over the bytes of ASCII from `at` on that a word has, by eights: the last seven bytes of the text may be left.
+// Over the bytes of ASCII from `at` on that a word has, by eights: the last seven bytes of the text may be left. Here and below each is one call, by the name of the
+// rule that its clause has.
 pub(crate) fn skip_words(text: &[u8], at: usize) -> usize
     requires { at ≤ length text.now }
     ensures { Skips ascii_word text.now at result }

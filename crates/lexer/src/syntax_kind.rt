@@ -1,5 +1,6 @@
 // The kinds by the Rust's names. Their numbers are document 01's. They are constants and no enum: `read_string`, which takes any two numbers
-// for its kinds, and the records that are lent hold numbers, so that no value of an enum would be kept, and each name would need a cast.
+// for its kinds, and the records that are lent hold numbers, so that no value of an enum would be kept, and each name would need a cast. Nothing makes a
+// `SyntaxKind`: it is where the names stand.
 #[derive(Clone, Copy)]
 pub struct SyntaxKind(pub u32);
 

@@ -18,7 +18,8 @@ impl fmt::Display for Token {
     }
 }
 
-// What a reader finds: the kind, and where it ends.
+// What a reader finds: the kind, and where it ends. A `Token` is made of it and a start at three places, each of which knows that the offsets fit into 32 bits;
+// a function for that would ask it of each, in more words than the three fields.
 #[derive(Clone, Copy)]
 pub struct Lexed {
     pub kind: u32,

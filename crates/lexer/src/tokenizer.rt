@@ -1,4 +1,5 @@
-// The readers, under the Rust's names and in its order. Each takes the text and an offset; none needs the text to be UTF-8.
+// The readers, under the Rust's names and in its order. Each takes the text and an offset, in two registers: a struct of the three words would go
+// through memory. None needs the text to be UTF-8.
 ghost use Rattle.std.specs.Prelude.{◌≡◌, Bool, true, false, ◌&&◌, ◌+◌, ◌-◌, ◌≤◌, ◌<◌, length, get_or, take, drop, eqb, ◌≢◌, MatchOption};
 ghost use Rattle.rules.specs.Utf8.{chars};
 ghost use Rattle.rules.specs.Classes.{white_space, alphabetic, digit};
@@ -63,7 +64,7 @@ pub fn next_token(text: &[u8], start: usize) -> Lexed
     }
 }
 
-// The token at `start` near the text's end.
+// The token at `start` among the last three bytes. A function of its own, so that `next_token` need not ask for each token whether they are there.
 fn last_token(text: &[u8], start: usize) -> Lexed
     requires { start < length text.now }
     ensures { result ≡ ends_at start (lexeme (after_dot_at text.now start) (drop start text.now)) }

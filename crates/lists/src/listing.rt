@@ -165,7 +165,7 @@ pub fn needed(of: Chosen, room: usize) -> usize
     count(of)
 }
 
-// How far a list is stored: the bytes of the tokens that are kept before a cursor.
+// How far a list is stored: the bytes of the tokens that are kept before a cursor. Bytes and not tokens, so it is no `Counted`.
 #[derive(Clone, Copy, Default)]
 pub struct Stored {
     pub cursor: usize,

@@ -137,7 +137,7 @@ pub fn unit_at(s: &[u8], i: usize) -> Unit
     }
 }
 
-// The code of a unit; of no character, a code past all of them.
+// The code of a unit; of no character, a code past all of them, as `unit_code` of specs/Units has it: what asks for a class needs no case for it.
 pub fn unit_code(u: Unit) -> u32
     ensures { result ≡ unit_code u }
 {
@@ -192,17 +192,15 @@ fn ascii_end(s: &[u8], j: usize) -> usize
     if byte_at(s, k) >= 0x80 {
         return k;
     }
-    // Each loop goes on where the one before it stopped, and where the last one stops is the answer: an iterator for each would hand back neither.
+    // Each loop goes on where the one before it stopped: an iterator over blocks would not hand that back.
     while s.len() - k >= 64 && are_ascii::<64>(s, k) {
         k += 64;
     }
     while s.len() - k >= 8 && are_ascii::<8>(s, k) {
         k += 8;
     }
-    while k < s.len() && s[k] < 0x80 {
-        k += 1;
-    }
-    k
+    let rest = &s[k..];
+    k + rest.iter().position(|b| *b >= 0x80).unwrap_or(rest.len())
 }
 
 // The first of two bytes stands at i where a tail follows, and a tail or ASCII where none does.
@@ -252,7 +250,7 @@ fn all16<F: Fn(usize) -> bool>(i: usize, test: F) -> bool
     all
 }
 
-// Past at most N tails from k on.
+// Past at most N tails from k on. Where it ends is the answer, and past the text's end there is no tail: an iterator would need a limit and a test more.
 fn after_tails<const N: usize>(s: &[u8], k: usize) -> usize
     requires { k ≤ length s.now }
     ensures { result ≡ after N s.now k }
@@ -289,6 +287,7 @@ pub fn valid_length(s: &[u8]) -> usize
     ensures { result ≡ valid_length s.now }
 {
     let mut j = 0;
+    // A turn goes on where a run ends.
     while j < s.len() {
         if s[j] < 0x80 {
             j = ascii_end(s, j + 1);

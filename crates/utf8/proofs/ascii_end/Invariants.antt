@@ -14,9 +14,3 @@ invariant-loop-k-2 l = Passes l.s l.j l.k
 
 abbrev pub decreases-loop-k-2 : goal.decreases-loop-k-2
 decreases-loop-k-2 l = length l.s - l.k
-
-abbrev pub invariant-loop-k-3 : goal.invariant-loop-k-3
-invariant-loop-k-3 l = Passes l.s l.j l.k
-
-abbrev pub decreases-loop-k-3 : goal.decreases-loop-k-3
-decreases-loop-k-3 l = length l.s - l.k
