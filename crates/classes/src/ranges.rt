@@ -7,7 +7,7 @@ ghost use Rattle.classes.specs.Rows.{byte_sum};
 use crate::tables::{PLACES, STRIDES};
 use runs::eight;
 
-// From checkpoint `i` on, `by` at a time, to where the next would be past `c`. A search by halves would wait for each load before the next; here
+// A checkpoint is one number, of a bound and a place, so that a step of the search loads once. From checkpoint `i` on, `by` at a time, to where the next would be past `c`. A search by halves would wait for each load before the next; here
 // the processor foresees the jumps, since the characters of a word are mostly of one script.
 fn go_on(index: &[u32], i: usize, by: usize, c: u32) -> usize
     requires { (i < count index.now) × (0 < by) × (by ≤ 8) × (bound index.now i ≤ c) }

@@ -27,7 +27,7 @@ pub fn store_records(
     answer_by(at, i)
 }
 
-// The whole listing.
+// The whole listing. This and the next are two as `tokenize` and `tokenize_up_to_position` are: each is one definition's.
 pub fn tokenize_records(
     settings: Settings,
     text: &[u8],

@@ -13,6 +13,7 @@ use crate::syntax_kind::SyntaxKind;
 use runs::Class;
 use utf8::byte_at;
 
+// Of a byte. That of a code stands in `classes`: the library has none for a u32, and no type that both are.
 pub(crate) fn is_digit(b: u8) -> bool
     ensures { result ≡ digit b }
 {
