@@ -6,7 +6,7 @@ ghost use Rattle.runs.specs.Classes.{Ascii, Ascii-prop, inside, passes, Skips, U
 ghost use Rattle.runs.specs.Lanes.{ones, packed, others};
 
 // A class of bytes of ASCII: from one edge on and below the next, of which there are four pairs. Two equal ones bound nothing.
-#[derive(Clone, Copy)]
+#[derive(Clone, Copy, PartialEq, Eq, Debug)]
 pub struct Class {
     pub edges: [u8; 8],
     pub ghost eight: { length edges ≡ 8 },
@@ -107,10 +107,13 @@ pub fn skip_pairs(text: &[u8], at: usize, a: Class, b: Class) -> usize
     i
 }
 
-// Bytes copied to the front of others, of which the rest stays.
+// Bytes copied to the front of others, of which the rest stays. By a loop, which becomes wide code: `copy_from_slice` calls memmove, which a host
+// without a C library does not have.
 pub fn copy_front(text: &[u8], copy: &mut [u8])
     requires { length text.now ≤ length copy.old }
     ensures { let s = text.now in copy.new ≡ s ++ drop (length s) copy.old }
 {
-    copy[..text.len()].copy_from_slice(text);
+    for i in 0..text.len() {
+        copy[i] = text[i];
+    }
 }
