@@ -15,6 +15,10 @@ pub skips_as : (p q : ℕ → Bool) → ((b : ℕ) → p b ≡ q b) → (s : Lis
 skips_as p q e s i j r =
     record { from = r.from; upto = r.upto; pass = λ k a b. sym (e (get_or s k 0)) ∙ r.pass k a b; stop = λ h. sym (e (get_or s j 0)) ∙ r.stop h }
 
+-- nothing is skipped where the first byte does not pass
+pub skips_none : (p : ℕ → Bool) (s : List ℕ) (i : ℕ) → i ≤ length s → p (get_or s i 0) ≡ false → Skips p s i i
+skips_none p s i h e = record { from = omega arith; upto = h; pass = λ k a b. absurd (omega arith); stop = λ l. e }
+
 -- what each byte that passes keeps, a skip keeps
 pub over : (P : ℕ → Type 0) (p : ℕ → Bool) (s : List ℕ) (i j : ℕ) → ((k : ℕ) → k < length s → p (get_or s k 0) ≡ true → P k → P (k + 1)) → Skips p s i j → P i → P j
 over P p s i j f r w = subst P (omega (arith, r.from)) (go (j - i) (omega (arith, r.from)))

@@ -225,20 +225,21 @@ fn read_multi_line_comment(text: &[u8], at: usize) -> Lexed
     let mut j = skip_to_either(text, at, b'*', b'/');
     let mut deeper: usize = 0;
     while j < text.len() {
-        match (text[j], byte_at(text, j + 1)) {
-            (b'*', b'/') => {
-                if deeper == 0 {
-                    return Lexed::new(SyntaxKind::Comment, j + 2);
-                }
-                deeper -= 1;
-                j += 2;
+        // The second byte is asked for only where the first is there: a match of both takes a twentieth more instructions.
+        if text[j] == b'*' && byte_at(text, j + 1) == b'/' {
+            if deeper == 0 {
+                return Lexed::new(SyntaxKind::Comment, j + 2);
             }
-            (b'/', b'*') => {
-                deeper += 1;
-                j += 2;
-            }
-            _ => j = skip_to_either(text, j + 1, b'*', b'/'),
+            deeper -= 1;
+            j += 2;
+            continue;
         }
+        if text[j] == b'/' && byte_at(text, j + 1) == b'*' {
+            deeper += 1;
+            j += 2;
+            continue;
+        }
+        j = skip_to_either(text, j + 1, b'*', b'/');
     }
     Lexed::new(SyntaxKind::ErrorMultilineCommentIsNotClosed, j)
 }
@@ -435,7 +436,8 @@ fn read_unicode_quoted(
     ensures { result ≡ ends_at at (enclosed 0 (up_to (curly_close last) (chars (drop at text.now))) success_type error_type) }
 {
     for i in at..text.len() {
-        if (text[i], byte_at(text, i + 1), byte_at(text, i + 2)) == (0xE2, 0x80, last) {
+        // Most bytes are no 0xE2, so that one test does for them.
+        if text[i] == 0xE2 && (byte_at(text, i + 1), byte_at(text, i + 2)) == (0x80, last) {
             return Lexed::new(success_type, i + 3);
         }
     }
@@ -460,7 +462,14 @@ fn matches(text: &[u8], at: usize, delimiter: &[u8]) -> bool
     requires { (at ≤ length text.now) × Ascii delimiter.now }
     ensures { result ≡ begins delimiter.now (chars (drop at text.now)) }
 {
-    text[at..].starts_with(delimiter)
+    // By the bytes up to the first that differs, which most often is the second: `starts_with` is slower on so few, and takes the registers that
+    // `find_delimiter` goes over the rest with.
+    for k in 0..delimiter.len() {
+        if byte_at(text, at + k) != delimiter[k] {
+            return false;
+        }
+    }
+    true
 }
 
 // Where the first delimiter from `at` on ends, if there is one. Bytes among which no `$` stands before the delimiter's second byte are gone over by eights.
