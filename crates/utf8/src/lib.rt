@@ -282,6 +282,18 @@ fn narrow_end<const N: usize, F: Fn(usize) -> bool>(s: &[u8], j: usize, test: F)
     after_tails::<N>(s, k)
 }
 
+// Past characters of four bytes from j on. A turn of its own tests less than one of `valid_length`, which asks for each length.
+fn fours_end(s: &[u8], j: usize) -> usize
+    requires { j ≤ length s.now }
+    ensures { Passes s.now j result }
+{
+    let mut k = j;
+    while s.len() - k >= 4 && s[k] >= 0xF0 && is_four(s[k], s[k + 1], s[k + 2], s[k + 3]) {
+        k += 4;
+    }
+    k
+}
+
 // The length of the longest prefix of well-formed characters.
 pub fn valid_length(s: &[u8]) -> usize
     ensures { result ≡ valid_length s.now }
@@ -296,7 +308,7 @@ pub fn valid_length(s: &[u8]) -> usize
                 None => return j,
                 Some(2) => narrow_end::<1, _>(s, j + 2, |i| pair_at(s, i)),
                 Some(3) => narrow_end::<2, _>(s, j + 3, |i| triple_at(s, i)),
-                Some(n) => j + n,
+                Some(n) => fours_end(s, j + n),
             };
         }
     }

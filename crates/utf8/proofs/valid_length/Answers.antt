@@ -29,6 +29,9 @@ narrow_end-j-requires-in-Some-eq3-clause-from c = (pass_some _ _ _ 3 c.loop-j.in
 pub overflow_add-j-in-Some : goal.overflow_add-j-in-Some
 overflow_add-j-in-Some c = omega (arith, (pass_some _ _ _ _ c.loop-j.invariant (omega arith) c.formed_at.ensures c.in-Some.is refl).upto)
 
+pub fours_end-j-requires : goal.fours_end-j-requires
+fours_end-j-requires c = (pass_some _ _ _ _ c.loop-j.invariant (omega arith) c.formed_at.ensures c.in-Some.is refl).upto
+
 pub loop-j-preserved-in-Some-eq2 : goal.loop-j-preserved-in-Some-eq2
 loop-j-preserved-in-Some-eq2 c = pass_on _ _ _ _ (pass_some _ _ _ 2 c.loop-j.invariant (omega arith) c.formed_at.ensures c.in-Some-eq2.is c.in-Some-eq2.field-0-test) c.narrow_end-j.ensures
 
@@ -36,7 +39,7 @@ pub loop-j-preserved-in-Some-eq3 : goal.loop-j-preserved-in-Some-eq3
 loop-j-preserved-in-Some-eq3 c = pass_on _ _ _ _ (pass_some _ _ _ 3 c.loop-j.invariant (omega arith) c.formed_at.ensures c.in-Some-eq3.is c.in-Some-eq3.field-0-test) c.narrow_end-j-in-Some-eq3.ensures
 
 pub loop-j-preserved : goal.loop-j-preserved
-loop-j-preserved c = pass_some _ _ _ _ c.loop-j.invariant (omega arith) c.formed_at.ensures c.in-Some.is refl
+loop-j-preserved c = pass_on _ _ _ _ (pass_some _ _ _ _ c.loop-j.invariant (omega arith) c.formed_at.ensures c.in-Some.is refl) c.fours_end-j.ensures
 
 pub returns : goal.returns
 returns c = pass_end _ _ c.loop-j.invariant c.loop-j-test.false
