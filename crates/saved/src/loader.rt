@@ -44,8 +44,8 @@ fn is_readable(file: &[u8]) -> bool
     records_fit(file, from, records, offset, u32::from(file[at + FLAG_AT]))
 }
 
-// The text of a file.
-pub fn saved_text<'a>(file: &'a [u8]) -> Result<&'a [u8], Refusal>
+// The text of a file, or why it has none, by every test but that for room.
+pub fn saved_text_answer<'a>(file: &'a [u8]) -> Result<&'a [u8], Refusal>
     ensures { part result (λ bytes. bytes.now) ≡ saved_text file.now }
 {
     if file.len() < TRAILER_BYTES {
@@ -70,6 +70,16 @@ pub fn saved_text<'a>(file: &'a [u8]) -> Result<&'a [u8], Refusal>
     Ok(text)
 }
 
+// The text of a file; empty where it is refused.
+pub fn saved_text<'a>(file: &'a [u8]) -> &'a [u8]
+    ensures { result.now ≡ (saved_text file.now).bytes }
+{
+    match saved_text_answer(file) {
+        Ok(text) => text,
+        Err(_) => &file[..0],
+    }
+}
+
 // The packed list of so many records from a place in a file on.
 fn put_tokens(file: &[u8], from: usize, records: usize, list: &mut [u8])
     requires { (from + records * record_bytes end_bytes ≤ length file.now) × (records * token_bytes ≤ length list.old) }
@@ -86,7 +96,7 @@ fn put_tokens(file: &[u8], from: usize, records: usize, list: &mut [u8])
 pub fn load(file: &[u8], list: &mut [u8]) -> Result<Loaded, Refusal>
     ensures { loaded result list.new ≡ loading file.now list.old }
 {
-    let text = saved_text(file)?;
+    let text = saved_text_answer(file)?;
     let at = file.len() - TRAILER_BYTES;
     let records = get_u32(file, at + COUNT_AT) as usize;
     if list.len() / token_bytes() < records {

@@ -262,3 +262,7 @@ starts_far {s} {i} {upto} {r} {m} {n} p h z e =
       after = p.after;
       more = omega (arith, p.more, e, sum_join (surplus_at s) r i upto p.high h);
     }
+
+-- A line that starts between two indices starts there in the whole text too.
+pub starts_near : {s : List ℕ} {from upto r n : ℕ} → Starts s from upto r n → from < r → Starts s 0 upto r n
+starts_near {s} {from} {upto} {r} {n} p h = record { low = omega arith; high = p.high; none = p.none; after = λ z. p.after h; more = p.more }

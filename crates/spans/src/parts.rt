@@ -1,4 +1,4 @@
-// Token text and shown text.
+// Token text and shown text. Each is two functions: one answers the part or why there is none, and one gives the part alone, which is empty where it is refused.
 ghost use Rattle.std.specs.Prelude.{◌≡◌};
 ghost use Rattle.rules.specs.Kinds.{hiding_kind, some_kind};
 ghost use Rattle.rules.specs.Answers.{no_part, token_text, shown_text};
@@ -52,18 +52,32 @@ fn check_part(text: &[u8], start: usize, end: usize) -> Result<(), Refusal>
     Ok(())
 }
 
-// The part of the text from start to end.
+// The part of the text from start to end, or why there is none.
 #[tactic(auto, unfolding(rules::specs::Answers::token_text))]
-pub fn token_text<'a>(text: &'a [u8], start: usize, end: usize) -> Result<&'a [u8], Refusal>
+pub fn token_text_answer<'a>(
+    text: &'a [u8],
+    start: usize,
+    end: usize,
+) -> Result<&'a [u8], Refusal>
     ensures { part result (λ bytes. bytes.now) ≡ token_text text.now start end }
 {
     check_part(text, start, end)?;
     Ok(&text[start..end])
 }
 
-// The part of the masked copy for a hiding kind, and the part of the text otherwise.
+// The part of the text from start to end; empty where it is refused.
+pub fn token_text<'a>(text: &'a [u8], start: usize, end: usize) -> &'a [u8]
+    ensures { result.now ≡ (token_text text.now start end).bytes }
+{
+    match token_text_answer(text, start, end) {
+        Ok(bytes) => bytes,
+        Err(_) => &text[..0],
+    }
+}
+
+// The part of the masked copy for a hiding kind, and the part of the text otherwise, or why there is none.
 #[tactic(auto, unfolding(rules::specs::Answers::shown_text))]
-pub fn shown_text<'a>(
+pub fn shown_text_answer<'a>(
     text: &'a [u8],
     copy: &'a [u8],
     kind: u32,
@@ -81,4 +95,20 @@ pub fn shown_text<'a>(
     }
     let shown = if hides(kind) { copy } else { text };
     Ok(&shown[start..end])
+}
+
+// The same part; empty where it is refused.
+pub fn shown_text<'a>(
+    text: &'a [u8],
+    copy: &'a [u8],
+    kind: u32,
+    start: usize,
+    end: usize,
+) -> &'a [u8]
+    ensures { result.now ≡ (shown_text text.now copy.now kind start end).bytes }
+{
+    match shown_text_answer(text, copy, kind, start, end) {
+        Ok(bytes) => bytes,
+        Err(_) => &text[..0],
+    }
 }

@@ -4,7 +4,7 @@ use Rattle.rules.specs.Utf8.{valid_length}
 use Rattle.rules.specs.Answers.{TooLong, NotUtf8, Done}
 use Rattle.rules.specs.Saved.{Malformed, NoVersion, offset_in, text_in}
 use Rattle.saved.proofs.Answers.{opening_short, opening-version, opening_long, opening_unreadable, opening-broken, opening_done, readable_sized, text-refused, text_given}
-use Rattle.saved.proofs.loader.saved_text.Goals as goal
+use Rattle.saved.proofs.loader.saved_text_answer.Goals as goal
 
 pub returns-then-file-lt-TRAILER_BYTES : goal.returns-then-file-lt-TRAILER_BYTES
 returns-then-file-lt-TRAILER_BYTES c = sym (text-refused c.args.file.now Malformed 0 (λ e. omega (arith, e)) (opening_short c.args.file.now c.if-file-lt-TRAILER_BYTES.true))
