@@ -12,9 +12,9 @@ ghost use Rattle.giehtamun.specs.Packed.{packed, packed_written, packed_step, pa
 use lists::listing::{Settings, tokenize, tokenize_up_to_position};
 use masking::copy::mask;
 use rules::refusal::Refusal;
-use saved::loader::{load, saved_text};
+use saved::loader::{load, saved_text_answer};
 use saved::saver::save;
-use spans::parts::{shown_text, token_text};
+use spans::parts::{shown_text_answer, token_text_answer};
 use spans::places::place;
 use statements::first_statement;
 use steps::step;
@@ -94,13 +94,13 @@ pub fn giehtamun_mask(text: &[u8], copy: &mut [u8]) -> u64
 pub fn giehtamun_token_text(text: &[u8], start: usize, end: usize) -> u64
     ensures { result ≡ packed_part (token_text_of text.now start end) }
 {
-    pack_part(token_text(text, start, end))
+    pack_part(token_text_answer(text, start, end))
 }
 
 pub fn giehtamun_shown_text(text: &[u8], copy: &[u8], kind: u32, start: usize, end: usize) -> u64
     ensures { result ≡ packed_part (shown_text_of text.now copy.now kind start end) }
 {
-    pack_part(shown_text(text, copy, kind, start, end))
+    pack_part(shown_text_answer(text, copy, kind, start, end))
 }
 
 pub fn giehtamun_place(text: &[u8], offset: usize) -> u64
@@ -148,5 +148,5 @@ pub fn giehtamun_load(file: &[u8], list: &mut [u8]) -> u64
 pub fn giehtamun_saved_text(file: &[u8]) -> u64
     ensures { result ≡ packed_part (saved_text_of file.now) }
 {
-    pack_part(saved_text(file))
+    pack_part(saved_text_answer(file))
 }

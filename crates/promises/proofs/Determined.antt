@@ -337,16 +337,25 @@ save κs a r s u v p q = lent (λ l. (tt, (tt, (tt, (l, tt))))) (one_answer r s 
 pub load : Determined loader_says.load.ended loader.load.Reads.Learnt
 load κs a r s u v p q = lent (λ l. (tt, (l, tt))) (one_loaded r s _ _ (same p q))
 
-pub saved_text : DeterminedAs loader_says.saved_text.ended loader.saved_text.Reads.Learnt (λ κs r. part r (λ bytes. bytes.now))
+pub saved_text_answer : DeterminedAs loader_says.saved_text_answer.ended loader.saved_text_answer.Reads.Learnt (λ κs r. part r (λ bytes. bytes.now))
+saved_text_answer κs a r s u v p q = (same p q, refl)
+
+pub saved_text : DeterminedAs loader_says.saved_text.ended loader.saved_text.Reads.Learnt (λ κs r. r.now)
 saved_text κs a r s u v p q = (same p q, refl)
 
 pub hides : Determined parts_says.hides.ended parts.hides.Reads.Learnt
 hides κs a r s u v p q = (same p q, refl)
 
-pub token_text : DeterminedAs parts_says.token_text.ended parts.token_text.Reads.Learnt (λ κs r. part r (λ bytes. bytes.now))
+pub token_text_answer : DeterminedAs parts_says.token_text_answer.ended parts.token_text_answer.Reads.Learnt (λ κs r. part r (λ bytes. bytes.now))
+token_text_answer κs a r s u v p q = (same p q, refl)
+
+pub token_text : DeterminedAs parts_says.token_text.ended parts.token_text.Reads.Learnt (λ κs r. r.now)
 token_text κs a r s u v p q = (same p q, refl)
 
-pub shown_text : DeterminedAs parts_says.shown_text.ended parts.shown_text.Reads.Learnt (λ κs r. part r (λ bytes. bytes.now))
+pub shown_text_answer : DeterminedAs parts_says.shown_text_answer.ended parts.shown_text_answer.Reads.Learnt (λ κs r. part r (λ bytes. bytes.now))
+shown_text_answer κs a r s u v p q = (same p q, refl)
+
+pub shown_text : DeterminedAs parts_says.shown_text.ended parts.shown_text.Reads.Learnt (λ κs r. r.now)
 shown_text κs a r s u v p q = (same p q, refl)
 
 pub place : Determined places_says.place.ended places.place.Reads.Learnt

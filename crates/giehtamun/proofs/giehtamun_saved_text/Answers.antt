@@ -7,4 +7,4 @@ use Rattle.giehtamun.proofs.giehtamun_saved_text.Goals as goal
 
 pub pack_part-requires : goal.pack_part-requires
 unfolding saved_text
-pack_part-requires c = subst (λ (p : Part). Fits p.number p.value) (sym c.saved_text.ensures) (fits_opening c.args.file.now)
+pack_part-requires c = subst (λ (p : Part). Fits p.number p.value) (sym c.saved_text_answer.ensures) (fits_opening c.args.file.now)

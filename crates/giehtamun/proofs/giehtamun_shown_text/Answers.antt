@@ -5,4 +5,4 @@ use Rattle.rules.proofs.Bounds.{fits_shown_text}
 use Rattle.giehtamun.proofs.giehtamun_shown_text.Goals as goal
 
 pub pack_part-requires : goal.pack_part-requires
-pack_part-requires c = subst (λ (p : Part). Fits p.number p.value) (sym c.shown_text.ensures) (fits_shown_text c.args.text.now c.args.copy.now c.args.kind c.args.start c.args.end)
+pack_part-requires c = subst (λ (p : Part). Fits p.number p.value) (sym c.shown_text_answer.ensures) (fits_shown_text c.args.text.now c.args.copy.now c.args.kind c.args.start c.args.end)

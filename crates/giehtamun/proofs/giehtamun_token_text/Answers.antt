@@ -5,4 +5,4 @@ use Rattle.rules.proofs.Bounds.{fits_token-text}
 use Rattle.giehtamun.proofs.giehtamun_token_text.Goals as goal
 
 pub pack_part-requires : goal.pack_part-requires
-pack_part-requires c = subst (λ (p : Part). Fits p.number p.value) (sym c.token_text.ensures) (fits_token-text c.args.text.now c.args.start c.args.end)
+pack_part-requires c = subst (λ (p : Part). Fits p.number p.value) (sym c.token_text_answer.ensures) (fits_token-text c.args.text.now c.args.start c.args.end)
