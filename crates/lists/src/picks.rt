@@ -44,7 +44,8 @@ fn fit(text: &[u8], plan: Plan, room: usize) -> Result<Plan, Refusal>
     ensures { Fits result text.now (outcome (plan_of (Ok plan) text.now) room) room }
 {
     let tokens = match plan {
-        Plan::TooLong => 2,
+        Plan::Nothing => 0,
+        Plan::TooLong => 2, // 48 and EndOfStream
         Plan::List(choice) => needed(Chosen { text, choice }, room),
     };
     check_room(tokens, room)?;
@@ -74,7 +75,7 @@ fn answer_of(plan: Plan, tokens: usize) -> Result<usize, Refusal>
 {
     match plan {
         Plan::TooLong => Err(Refusal::TooLong(tokens)),
-        Plan::List(_) => Ok(tokens),
+        Plan::Nothing | Plan::List(_) => Ok(tokens),
     }
 }
 
@@ -90,10 +91,10 @@ pub fn answer_in(text: &[u8], plan: Result<Plan, Refusal>, room: usize) -> Resul
     ensures { Answered result (outcome (plan_of plan text.now) room) }
 {
     let plan = plan?;
-    let tokens = if let Plan::List(choice) = plan {
-        count(Chosen { text, choice })
-    } else {
-        2
+    let tokens = match plan {
+        Plan::Nothing => 0,
+        Plan::TooLong => 2,
+        Plan::List(choice) => count(Chosen { text, choice }),
     };
     check_room(tokens, room)?;
     answer_of(plan, tokens)
@@ -184,7 +185,7 @@ pub fn pick(text: &[u8], at: &mut Picking, lone: &mut [u64]) -> Option<Token>
     ensures { Picks text.now at.old at.new lone.new result (records_from at.old.plan text.now) }
 {
     match at.plan {
-        Err(_) => None,
+        Err(_) | Ok(Plan::Nothing) => None,
         Ok(Plan::TooLong) => pick_too_long(at),
         Ok(Plan::List(choice)) => pick_chosen(Chosen { text, choice }, at, lone),
     }
