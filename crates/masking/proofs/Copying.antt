@@ -4,7 +4,7 @@ use native.Mathlib.Omega.{arith}
 use mathlib.Core.Path.{◌≡◌, refl, sym, ap, ap₂, ◌∙◌, subst}
 use mathlib.Core.List.{List, [], ◌∷◌, ◌++◌, append_assoc, append-nil}
 use mathlib.Core.Bool.{false}
-use lib.ListN.{length, drop, length-append, take-append-drop, drop_of_length-le}
+use lib.ListN.{length, drop, length-append, length-drop, take-append-drop, drop_of_length-le}
 use lib.Seq.{drop_at, drop-drop}
 use Rattle.rules.specs.Kinds.{hiding_kind}
 use Rattle.rules.specs.Tokens.{Token, token, tokens_from, lexeme, after_dot_at}
@@ -35,6 +35,9 @@ module _ (s copy₀ : List ℕ) (room : length s ≤ length copy₀) where
   pub copied_none : copy₀ ≡ filled s copy₀ → Copied s copy₀ copy₀ 0
   unfolding masked
   copied_none e = record { done = []; size = refl; bytes = e; all = ap (λ (ts : List Token). mask_tokens ts s) (sym (from_start s)) }
+
+  pub copied_length : (copy : List ℕ) (i : ℕ) → i ≤ length s → Copied s copy₀ copy i → length copy ≡ length copy₀
+  copied_length copy i h c = let z = c.size in ap length c.bytes ∙ simp (length-append, length-drop) (omega arith)
 
   pub copied_all : (copy : List ℕ) (i : ℕ) → length s ≤ i → Copied s copy₀ copy i → copy ≡ filled (masked s) copy₀
   unfolding mask_tokens
