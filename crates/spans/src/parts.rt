@@ -54,11 +54,7 @@ fn check_part(text: &[u8], start: usize, end: usize) -> Result<(), Refusal>
 
 // The part of the text from start to end, or why there is none.
 #[tactic(auto, unfolding(rules::specs::Answers::token_text))]
-pub fn token_text_answer<'a>(
-    text: &'a [u8],
-    start: usize,
-    end: usize,
-) -> Result<&'a [u8], Refusal>
+pub fn token_text_answer<'a>(text: &'a [u8], start: usize, end: usize) -> Result<&'a [u8], Refusal>
     ensures { part result (λ bytes. bytes.now) ≡ token_text text.now start end }
 {
     check_part(text, start, end)?;
