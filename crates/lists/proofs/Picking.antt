@@ -23,19 +23,16 @@ use Rattle.lexer.specs.Ends.{token_of}
 use Rattle.lists.specs.declared.listing.Choice.{Choice}
 use Rattle.lists.specs.Choices.{keeps, chosen}
 use Rattle.lists.specs.declared.listing.Plan.{Plan}
-use Rattle.lists.specs.declared.listing.Plan.TheVariants.{Nothing, TooLong as TwoTokens, List as Listing}
+use Rattle.lists.specs.declared.listing.Plan.TheVariants.{TooLong as TwoTokens, List as Listing}
 use Rattle.lists.specs.Plans.{plan_of, stored_by, Follows}
 use Rattle.lists.specs.Picks.{Answered, Fits, answer_by, records_from, records_of}
 use Rattle.lists.proofs.Choosing.{chosen_stop}
 
--- What all cases of a plan have: the list, and what is answered where it is stored.
+-- What both cases of a plan that stores have: the list, and what is answered where it is stored.
 pub record Lists (plan : Plan) (text : List ℕ) (ts : List Token) (number : ℕ) : Type 0 where
   pub stores : plan_of (Ok plan) text ≡ storing ts number
   pub tokens : records_from (Ok plan) text 0 ≡ records_of ts
   pub answer : (n : ℕ) → says (answer_by (Ok plan) n) number n × (stored_by (answer_by (Ok plan) n) ≡ n)
-
-pub lists_nothing : (text : List ℕ) → Lists Nothing text [] table.Done
-lists_nothing text = record { stores = refl; tokens = refl; answer = λ n. ((refl, refl), refl) }
 
 pub lists_two : (text : List ℕ) → Lists TwoTokens text too_long_list table.TooLong
 lists_two text = record { stores = refl; tokens = refl; answer = λ n. ((refl, refl), refl) }

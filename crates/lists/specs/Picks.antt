@@ -11,7 +11,7 @@ use Rattle.lexer.specs.declared.token.Lexed.{Lexed}
 use Rattle.lexer.specs.Ends.{token_of, ends_at}
 use Rattle.ahead.specs.Marks.{Marked}
 use Rattle.lists.specs.declared.listing.Plan.{Plan as CodePlan}
-use Rattle.lists.specs.declared.listing.Plan.TheVariants.{Nothing, TooLong, List as Listing}
+use Rattle.lists.specs.declared.listing.Plan.TheVariants.{Answered as Said, TooLong, List as Listing}
 use Rattle.lists.specs.declared.picks.Picking.{Picking}
 use Rattle.lists.specs.Choices.{chosen}
 use Rattle.lists.specs.Plans.{stored_by, Follows}
@@ -26,14 +26,14 @@ Answered answer is = says answer is.number is.value × (stored_by answer ≡ len
 -- The tokens of a plan's list that are left from a cursor on. Of the two tokens of a text that is too long the cursor is the number of those before.
 abbrev pub records_from : Result CodePlan Refusal → List ℕ → ℕ → List CodeToken
 records_from (Err refusal) text cursor = []
-records_from (Ok Nothing) text cursor = []
+records_from (Ok (Said value)) text cursor = []
 records_from (Ok TooLong) text cursor = records_of (drop cursor too_long_list)
 records_from (Ok (Listing choice)) text cursor = records_of (chosen choice text cursor)
 
 -- What is answered where so many tokens are stored.
 abbrev pub answer_by : Result CodePlan Refusal → ℕ → Answer
 answer_by (Err refusal) tokens = Err refusal
-answer_by (Ok Nothing) tokens = Ok tokens
+answer_by (Ok (Said value)) tokens = Ok value
 answer_by (Ok TooLong) tokens = Err (LongText tokens)
 answer_by (Ok (Listing choice)) tokens = Ok tokens
 

@@ -74,8 +74,8 @@ pub struct Choice {
 // What a listing that is not refused is to do, as far as the room does not decide it. No Option of a choice: `TooLong` is a list of two tokens.
 #[derive(Clone, Copy)]
 pub enum Plan {
-    // No token, of any text, and no refusal. No listing is planned so; a caller who plans by himself may.
-    Nothing,
+    // Nothing is stored, of any text, and this is answered. No listing is planned so; a caller who plans by himself may.
+    Answered(usize),
     // The list that `tokenize` gives of a text that is too long.
     TooLong,
     // Tokens of the text, which is not too long.
@@ -245,7 +245,7 @@ fn store(text: &[u8], plan: Plan, list: &mut [u8]) -> Result<usize, Refusal>
     ensures { written result list.new ≡ packed_by (plan_of (Ok plan) text.now) list.old }
 {
     match plan {
-        Plan::Nothing => Ok(0),
+        Plan::Answered(value) => Ok(value),
         Plan::TooLong => store_too_long(list),
         Plan::List(choice) => store_chosen(Chosen { text, choice }, list),
     }

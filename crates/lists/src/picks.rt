@@ -44,7 +44,7 @@ fn fit(text: &[u8], plan: Plan, room: usize) -> Result<Plan, Refusal>
     ensures { Fits result text.now (outcome (plan_of (Ok plan) text.now) room) room }
 {
     let tokens = match plan {
-        Plan::Nothing => 0,
+        Plan::Answered(_) => return Ok(plan),
         Plan::TooLong => 2, // 48 and EndOfStream
         Plan::List(choice) => needed(Chosen { text, choice }, room),
     };
@@ -75,7 +75,8 @@ fn answer_of(plan: Plan, tokens: usize) -> Result<usize, Refusal>
 {
     match plan {
         Plan::TooLong => Err(Refusal::TooLong(tokens)),
-        Plan::Nothing | Plan::List(_) => Ok(tokens),
+        Plan::Answered(value) => Ok(value),
+        Plan::List(_) => Ok(tokens),
     }
 }
 
@@ -92,7 +93,7 @@ pub fn answer_in(text: &[u8], plan: Result<Plan, Refusal>, room: usize) -> Resul
 {
     let plan = plan?;
     let tokens = match plan {
-        Plan::Nothing => 0,
+        Plan::Answered(value) => return Ok(value),
         Plan::TooLong => 2,
         Plan::List(choice) => count(Chosen { text, choice }),
     };
@@ -185,7 +186,7 @@ pub fn pick(text: &[u8], at: &mut Picking, lone: &mut [u64]) -> Option<Token>
     ensures { Picks text.now at.old at.new lone.new result (records_from at.old.plan text.now) }
 {
     match at.plan {
-        Err(_) | Ok(Plan::Nothing) => None,
+        Err(_) | Ok(Plan::Answered(_)) => None,
         Ok(Plan::TooLong) => pick_too_long(at),
         Ok(Plan::List(choice)) => pick_chosen(Chosen { text, choice }, at, lone),
     }
